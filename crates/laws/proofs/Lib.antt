@@ -1,0 +1,7 @@
+-- The laws.
+pub mod Tests
+pub mod Tab
+pub mod Search
+pub mod Sum
+pub mod Inject
+pub mod Marks

@@ -1,0 +1,1 @@
+// Counting, sums and finite search: definitions in specs/, laws in proofs/. No function.

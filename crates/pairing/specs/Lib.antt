@@ -1,0 +1,4 @@
+-- What the contracts of this crate cite.
+pub mod Pairing
+pub mod First
+pub mod Holders

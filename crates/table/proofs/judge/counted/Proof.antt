@@ -1,0 +1,14 @@
+-- `judge::counted` is the definition's test: the first comparison decides whether the second is looked at.
+use mathlib.Core.Path.{refl}
+use borrow.Author.Tests.{le-leb, lt-leb}
+use Rattle.table.proofs.judge.counted.Statement.{statement}
+use Rattle.table.proofs.judge.counted.Tie as tie
+
+returns : tie.Need-returns
+returns c = rw (le-leb _ _ (c .if1 .taken))
+
+returns-2 : tie.Need-returns-2
+returns-2 c = rw (lt-leb _ _ (c .if1 .left))
+
+pub counted-spec : {M : Type 1} → statement M
+counted-spec = tie.close (tie.spec returns returns-2)
