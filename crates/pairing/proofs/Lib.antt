@@ -1,0 +1,2 @@
+-- The theory of pairings, over any numbers of equations and unknowns and any relation between them.
+pub mod Sizes
