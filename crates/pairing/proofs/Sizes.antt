@@ -5,7 +5,7 @@ use mathlib.Core.Bool.{Bool, true, false, not}
 use Prim.Native.Nat.{ℕ, zero, suc, _+_, _<_, _≤_}
 use native.Mathlib.Omega.{arith}
 use native.Mathlib.Nat.{le-antisymm}
-use Rattle.laws.specs.Count.{bit, sum, count, any}
+use Rattle.laws.specs.Count.{bit, count, any}
 use Rattle.laws.proofs.Tests.{test, given, clash, not-true}
 use Rattle.laws.proofs.Search.{any-here, any-where}
 use Rattle.laws.proofs.Sum.{sum-at-most, bit-true}
@@ -39,7 +39,8 @@ all-count (suc n) p h = let r = all-count n p (λ i b. h i (omega arith)) in let
 pub count-mono : (n : ℕ) (p q : ℕ → Bool) → ((i : ℕ) → i < n → p i ≡ true → q i ≡ true) → count n p ≤ count n q
 count-mono n p q f = count-inject n n p q (λ i j. i ≡ j) (λ i i′ j a b. a ∙ sym b) (λ i h t. (i, h, refl, f i h t))
 
-pub count-less : (n : ℕ) (p q : ℕ → Bool) → ((i : ℕ) → i < n → p i ≡ true → q i ≡ true) → (k : ℕ) → k < n → q k ≡ true → p k ≡ false → count n p < count n q
+pub count-less : (n : ℕ) (p q : ℕ → Bool) → ((i : ℕ) → i < n → p i ≡ true → q i ≡ true)
+    → (k : ℕ) → k < n → q k ≡ true → p k ≡ false → count n p < count n q
 count-less n p q f k h t none = count-misses n n p q (λ i j. i ≡ j) (λ i i′ j a b. a ∙ sym b) (λ i b s. (i, b, refl, f i b s)) k h t
     (λ i b s e. clash (rw e at s) none)
 
