@@ -3,3 +3,5 @@ pub mod Sizes
 pub mod Give
 pub mod Along
 pub mod Certificate
+pub mod Turn
+pub mod Solve
