@@ -5,3 +5,4 @@ pub mod Along
 pub mod Certificate
 pub mod Turn
 pub mod Solve
+pub mod Lists

@@ -2,3 +2,4 @@
 pub mod Pairing
 pub mod First
 pub mod Holders
+pub mod Members
