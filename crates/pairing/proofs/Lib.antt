@@ -6,3 +6,4 @@ pub mod Certificate
 pub mod Turn
 pub mod Solve
 pub mod Lists
+pub mod First
