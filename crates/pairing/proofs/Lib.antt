@@ -7,3 +7,4 @@ pub mod Turn
 pub mod Solve
 pub mod Lists
 pub mod First
+pub mod Hall
