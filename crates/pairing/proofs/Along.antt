@@ -22,7 +22,7 @@ module _ {m n : ℕ} {edge Q : Rel} (l : Largest m n edge Q) (a u e : ℕ) (insi
       let before = size-turned (l .ok) in
       let after = size-turned swap in
       let held = covers (turn Q) (turned swap) (λ v g t. test (eqb v u)
-          (λ i. (a, rw (eqb-true v u i) (given-here Q a u))) (λ i. (g, given-other Q a u g v (eqb-false v u i) ∙ t))) in
+      (λ i. (a, rw (eqb-true v u i) (given-here Q a u))) (λ i. (g, given-other Q a u g v (eqb-false v u i) ∙ t))) in
       as-large l swap (omega arith)
 
   freed : LeftOver (given-to Q a u) e
@@ -54,28 +54,31 @@ module _ {m n : ℕ} {edge M : Rel} {a : ℕ} (s : Met m n edge M a) (e u : ℕ)
 
   last : Frees m n edge M (s .L) a → Frees m n edge M longer e
   last q = let had = q .keeps e u new holds in record {
-      inside = inside;
-      pairs = given-to (q .pairs) a u;
-      most = swapped (q .most) a u e (q .inside) (q .over) fits had;
-      over = freed (q .most) a u e (q .inside) (q .over) fits had;
-      keeps = λ g v f t. given (outside g f) (λ (ne, o). let w = q .keeps g v o t in
-          given-other (q .pairs) a u g v (λ i. ne (q .most .ok .oneE g e u (rw i at w) had)) ∙ w) }
+    inside = inside;
+    pairs = given-to (q .pairs) a u;
+    most = swapped (q .most) a u e (q .inside) (q .over) fits had;
+    over = freed (q .most) a u e (q .inside) (q .over) fits had;
+    keeps = λ g v f t. given (outside g f) (λ (ne, o). let w = q .keeps g v o t in
+        given-other (q .pairs) a u g v (λ i. ne (q .most .ok .oneE g e u (rw i at w) had)) ∙ w);
+  }
 
   met : Met m n edge M e
   unfolding longer
   met = record {
-      L = longer;
-      this = or-left (s .L e) (eq-eqb e e refl);
-      frees = λ x t. either (or-cases (eqb x e) (s .L x) t) (λ i. rw (eqb-true x e i) (last (s .frees a (s .this)))) (λ i. earlier x (s .frees x i)) }
+    L = longer;
+    this = or-left (s .L e) (eq-eqb e e refl);
+    frees = λ x t. either (or-cases (eqb x e) (s .L x) t) (λ i. rw (eqb-true x e i) (last (s .frees a (s .this)))) (λ i. earlier x (s .frees x i));
+  }
     where
       earlier : (x : ℕ) → Frees m n edge M (s .L) x → Frees m n edge M longer x
       earlier x q = record { inside = q .inside; pairs = q .pairs; most = q .most; over = q .over; keeps = λ g v f t. q .keeps g v (outside g f .1) t }
 
 along : {m n : ℕ} {edge M : Rel} {f e : ℕ} → Largest m n edge M → f < m → LeftOver M f → Reach edge M f e → Met m n edge M e
 along {M = M} {f} l h free start = record {
-    L = λ x. eqb x f;
-    this = eq-eqb f f refl;
-    frees = λ x t. rw (eqb-true x f t) (record { inside = h; pairs = M; most = l; over = free; keeps = λ g v a b. b }) }
+  L = λ x. eqb x f;
+  this = eq-eqb f f refl;
+  frees = λ x t. rw (eqb-true x f t) (record { inside = h; pairs = M; most = l; over = free; keeps = λ g v a b. b });
+}
 along l h free (step {e = e} u w fits holds) =
     let s = along l h free w in
     test (s .L e) (λ t. record { L = s .L; this = t; frees = s .frees }) (met s e u (l .ok .row e u holds) fits holds)

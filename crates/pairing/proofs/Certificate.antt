@@ -111,8 +111,8 @@ module _ {m n : ℕ} {edge M : Rel} {X : ℕ → Bool} (c : Certificate m n edge
     surplus-deficit =
         let a = sum-same m (λ e. bit (Y e)) (λ e. bit (X e)) (λ e h. ap bit (same e h)) in
         let b = sum-same n (λ u. bit (any m (λ e. Y e && edge e u))) (λ u. bit (any m (λ e. X e && edge e u)))
-            (λ u h. ap bit (any-same m (λ e. Y e && edge e u) (λ e. X e && edge e u) (λ e i. rw (same e i)))) in
+        (λ u h. ap bit (any-same m (λ e. Y e && edge e u) (λ e. X e && edge e u) (λ e i. rw (same e i)))) in
         let d = deficit in
-        let l = largest-size (r .largest) (largest) in
+        let l = largest-size (r .largest) largest in
         let q = r .counts in
         omega arith

@@ -30,13 +30,15 @@ pairs-of m p e u = ltb e m && eqb u (p e)
 
 pub partners-full : {m n : ℕ} {edge : Rel} {p : ℕ → ℕ} → Partners m n edge p → Full m n edge (pairs-of m p)
 partners-full {m} {n} {edge} {p} k = record {
-    ok = record {
-        row = λ e u t. row e u t;
-        col = λ e u t. rw (is e u t) (k .col e (row e u t));
-        fits = λ e u t. rw (is e u t) (k .fits e (row e u t));
-        oneU = λ e u v s t. is e u s ∙ sym (is e v t);
-        oneE = λ e f u s t. k .own e f (row e u s) (row f u t) (sym (is e u s) ∙ is f u t) };
-    every = λ e h. (p e, and-both (lt-ltb e m h) (eq-eqb (p e) (p e) refl)) }
+  ok = record {
+    row = row;
+    col = λ e u t. rw (is e u t) (k .col e (row e u t));
+    fits = λ e u t. rw (is e u t) (k .fits e (row e u t));
+    oneU = λ e u v s t. is e u s ∙ sym (is e v t);
+    oneE = λ e f u s t. k .own e f (row e u s) (row f u t) (sym (is e u s) ∙ is f u t);
+  };
+  every = λ e h. (p e, and-both (lt-ltb e m h) (eq-eqb (p e) (p e) refl));
+}
   where
     row : (e u : ℕ) → pairs-of m p e u ≡ true → e < m
     row e u t = ltb-true e m (and-left (ltb e m) (eqb u (p e)) t)
@@ -47,9 +49,10 @@ partners-full {m} {n} {edge} {p} k = record {
 -- a choice of the pairs of a pairing
 pub partners-of : {m n : ℕ} {edge M : Rel} {p : ℕ → ℕ} → Pairing m n edge M → ((e : ℕ) → e < m → M e (p e) ≡ true) → Partners m n edge p
 partners-of {M = M} {p} k has = record {
-    col = λ e h. k .col e (p e) (has e h);
-    fits = λ e h. k .fits e (p e) (has e h);
-    own = λ e f h i s. k .oneE e f (p f) (rw s at (has e h)) (has f i) }
+  col = λ e h. k .col e (p e) (has e h);
+  fits = λ e h. k .fits e (p e) (has e h);
+  own = λ e f h i s. k .oneE e f (p f) (rw s at (has e h)) (has f i);
+}
 
 -- the lowest i below n with p i, or 0
 abbrev pub lowest : ℕ → (ℕ → Bool) → ℕ

@@ -25,12 +25,13 @@ given-here Q a u = rw (eq-eqb u u refl, eq-eqb a a refl)
 
 pub give : {m n : ℕ} {edge Q : Rel} → Pairing m n edge Q → {a u : ℕ} → a < m → u < n → LeftOver Q a → edge a u ≡ true → Pairing m n edge (given-to Q a u)
 give {Q = Q} k {a} {u} inside within free fits = record {
-    row = λ g v t. either (given-cases Q a u g v t) (λ (p, q). rw q inside) (λ (p, q). k .row g v q);
-    col = λ g v t. either (given-cases Q a u g v t) (λ (p, q). rw p within) (λ (p, q). k .col g v q);
-    fits = λ g v t. either (given-cases Q a u g v t) (λ (p, q). rw (p, q) fits) (λ (p, q). k .fits g v q);
-    oneU = λ g v w s t. either (given-cases Q a u g v s)
-        (λ (p, q). either (given-cases Q a u g w t) (λ (p′, q′). p ∙ sym p′) (λ (p′, q′). absurd (free w (rw q at q′))))
-        (λ (p, q). either (given-cases Q a u g w t) (λ (p′, q′). absurd (free v (rw q′ at q))) (λ (p′, q′). k .oneU g v w q q′));
-    oneE = λ g f v s t. either (given-cases Q a u g v s)
-        (λ (p, q). either (given-cases Q a u f v t) (λ (p′, q′). q ∙ sym q′) (λ (p′, q′). absurd (p′ p)))
-        (λ (p, q). either (given-cases Q a u f v t) (λ (p′, q′). absurd (p p′)) (λ (p′, q′). k .oneE g f v q q′)) }
+  row = λ g v t. either (given-cases Q a u g v t) (λ (p, q). rw q inside) (λ (p, q). k .row g v q);
+  col = λ g v t. either (given-cases Q a u g v t) (λ (p, q). rw p within) (λ (p, q). k .col g v q);
+  fits = λ g v t. either (given-cases Q a u g v t) (λ (p, q). rw (p, q) fits) (λ (p, q). k .fits g v q);
+  oneU = λ g v w s t. either (given-cases Q a u g v s)
+      (λ (p, q). either (given-cases Q a u g w t) (λ (p′, q′). p ∙ sym p′) (λ (p′, q′). absurd (free w (rw q at q′))))
+      (λ (p, q). either (given-cases Q a u g w t) (λ (p′, q′). absurd (free v (rw q′ at q))) (λ (p′, q′). k .oneU g v w q q′));
+  oneE = λ g f v s t. either (given-cases Q a u g v s)
+      (λ (p, q). either (given-cases Q a u f v t) (λ (p′, q′). q ∙ sym q′) (λ (p′, q′). absurd (p′ p)))
+      (λ (p, q). either (given-cases Q a u f v t) (λ (p′, q′). absurd (p p′)) (λ (p′, q′). k .oneE g f v q q′));
+}

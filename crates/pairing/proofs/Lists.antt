@@ -53,9 +53,10 @@ listed-one {l = l} {l′} a b = ext-getD 0 l l′ (le-antisymm (shorter a b) (sh
 
 pub listed-carry : {n : ℕ} {P P′ : ℕ → Type 0} {l : List ℕ} → ((i : ℕ) → i < n → P i ↔ P′ i) → Listed n P l → Listed n P′ l
 listed-carry {l = l} same a = record {
-    only = λ i h. let o = a .only i h in (o .0, same (getD l i 0) (o .0) .0 (o .1));
-    all = λ x h w. a .all x h (same x h .1 w);
-    ascends = a .ascends }
+  only = λ i h. let o = a .only i h in (o .0, same (getD l i 0) (o .0) .0 (o .1));
+  all = λ x h w. a .all x h (same x h .1 w);
+  ascends = a .ascends;
+}
 
 -- a loop that adds n where it has P: its start and its two steps
 pub listed-start : {P : ℕ → Type 0} → Listed 0 P []
@@ -63,9 +64,10 @@ listed-start = record { only = λ i h. absurd (omega arith); all = λ x h w. abs
 
 pub listed-skip : {n : ℕ} {P : ℕ → Type 0} {l : List ℕ} → Listed n P l → (P n → ⊥) → Listed (suc n) P l
 listed-skip {n} {P} {l} a not-n = record {
-    only = λ i h. let o = a .only i h in (omega arith, o .1);
-    all = λ x h w. test (eqb x n) (λ t. absurd (not-n (rw (eqb-true x n t) at w))) (λ t. a .all x (omega (arith, tests)) w);
-    ascends = a .ascends }
+  only = λ i h. let o = a .only i h in (omega arith, o .1);
+  all = λ x h w. test (eqb x n) (λ t. absurd (not-n (rw (eqb-true x n t) at w))) (λ t. a .all x (omega (arith, tests)) w);
+  ascends = a .ascends;
+}
 
 -- a place of a list with one more at its end
 end-cases : (l : List ℕ) (x i : ℕ) → i < length (l ++ x ∷ [])
@@ -76,15 +78,16 @@ end-cases l x i h = test (ltb i (length l))
 
 pub listed-add : {n : ℕ} {P : ℕ → Type 0} {l : List ℕ} → Listed n P l → P n → Listed (suc n) P (l ++ n ∷ [])
 listed-add {n} {P} {l} a this = record {
-    only = λ i h. either (end-cases l n i h)
-        (λ (k, e). let o = a .only i k in (rw e (omega arith), rw e (o .1)))
-        (λ (k, e). (rw e (omega arith), rw e this));
-    all = λ x h w. test (eqb x n)
-        (λ t. (length l, omega (arith, length-append l (n ∷ [])), getD-append-seam l n [] 0 ∙ sym (eqb-true x n t)))
-        (λ t. given (a .all x (omega (arith, tests)) w) (λ (i, k, e). (i, omega (arith, length-append l (n ∷ [])), List·getD-append l (n ∷ []) 0 i k ∙ e)));
-    ascends = λ i j q h. either (end-cases l n j h)
-        (λ (k, e). rw (e, List·getD-append l (n ∷ []) 0 i (omega arith)) (a .ascends i j q k))
-        (λ (k, e). rw (e, List·getD-append l (n ∷ []) 0 i (omega arith)) (a .only i (omega arith) .0)) }
+  only = λ i h. either (end-cases l n i h)
+      (λ (k, e). let o = a .only i k in (rw e (omega arith), rw e (o .1)))
+      (λ (k, e). (rw e (omega arith), rw e this));
+  all = λ x h w. test (eqb x n)
+      (λ t. (length l, omega (arith, length-append l (n ∷ [])), getD-append-seam l n [] 0 ∙ sym (eqb-true x n t)))
+      (λ t. given (a .all x (omega (arith, tests)) w) (λ (i, k, e). (i, omega (arith, length-append l (n ∷ [])), List·getD-append l (n ∷ []) 0 i k ∙ e)));
+  ascends = λ i j q h. either (end-cases l n j h)
+      (λ (k, e). rw (e, List·getD-append l (n ∷ []) 0 i (omega arith)) (a .ascends i j q k))
+      (λ (k, e). rw (e, List·getD-append l (n ∷ []) 0 i (omega arith)) (a .only i (omega arith) .0));
+}
 
 -- members: none below 0, and one more or not
 pub members-zero : (p : ℕ → Bool) → members 0 p ≡ []

@@ -47,11 +47,12 @@ count-less n p q f k h t none = count-misses n n p q (λ i j. i ≡ j) (λ i i�
 -- equations and unknowns exchanged
 pub turned : {m n : ℕ} {edge M : Rel} → Pairing m n edge M → Pairing n m (turn edge) (turn M)
 turned k = record {
-    row = λ u e h. k .col e u h;
-    col = λ u e h. k .row e u h;
-    fits = λ u e h. k .fits e u h;
-    oneU = λ u e f a b. k .oneE e f u a b;
-    oneE = λ u v e a b. k .oneU e u v a b }
+  row = λ u e h. k .col e u h;
+  col = λ u e h. k .row e u h;
+  fits = λ u e h. k .fits e u h;
+  oneU = λ u e f a b. k .oneE e f u a b;
+  oneE = λ u v e a b. k .oneU e u v a b;
+}
 
 pub turn-below : {m n : ℕ} {edge M : Rel} → Pairing m n edge M → size n m (turn M) ≤ size m n M
 turn-below {m} {n} {edge} {M} k = count-inject n m (λ u. any m (turn M u)) (λ e. any n (M e)) (λ u e. M e u ≡ true) (λ u v e a b. k .oneU e u v a b)
@@ -91,8 +92,9 @@ full-size {m} {n} {edge} {M} f =
 
 pub size-full : {m n : ℕ} {edge M : Rel} → Pairing m n edge M → size m n M ≡ m → Full m n edge M
 size-full {m} {n} {edge} {M} k e = record {
-    ok = k;
-    every = λ i h. given (any-where {n = n} (M i) (count-all m (λ e. any n (M e)) e i h)) (λ (u, b, w). (u, w)) }
+  ok = k;
+  every = λ i h. given (any-where {n = n} (M i) (count-all m (λ e. any n (M e)) e i h)) (λ (u, b, w). (u, w));
+}
 
 -- so a full pairing is a largest one
 pub full-largest : {m n : ℕ} {edge M : Rel} → Full m n edge M → Largest m n edge M
@@ -104,8 +106,9 @@ full-turned same f = size-full (turned (f .ok)) (size-turned (f .ok) ∙ full-si
 
 pub largest-turned : {m n : ℕ} {edge M : Rel} → Largest m n edge M → Largest n m (turn edge) (turn M)
 largest-turned {m} {n} {edge} {M} l = record {
-    ok = turned (l .ok);
-    top = λ Q k. let a = l .top (turn Q) (turned k) in let b = size-turned k in let c = size-turned (l .ok) in omega arith }
+  ok = turned (l .ok);
+  top = λ Q k. let a = l .top (turn Q) (turned k) in let b = size-turned k in let c = size-turned (l .ok) in omega arith;
+}
 
 -- all largest pairings have one size: there is one rank
 pub largest-size : {m n : ℕ} {edge M Q : Rel} → Largest m n edge M → Largest m n edge Q → size m n M ≡ size m n Q

@@ -12,8 +12,9 @@ rank-turned r = record { pairs = turn (r .pairs); largest = largest-turned (r .l
 
 pub unfixed-turned : {m n : ℕ} {edge : Rel} {u : ℕ} → Unfixed m n edge u ↔ Surplus n m (turn edge) u
 unfixed-turned = (
-    λ s. record { pairs = turn (s .pairs); largest = largest-turned (s .largest); over = s .over },
-    λ s. record { pairs = turn (s .pairs); largest = largest-turned (s .largest); over = s .over })
+  λ s. record { pairs = turn (s .pairs); largest = largest-turned (s .largest); over = s .over },
+  λ s. record { pairs = turn (s .pairs); largest = largest-turned (s .largest); over = s .over },
+)
 
 -- so a certificate of the turned table decides what is unfixed
 pub left-over-unknown : {m n : ℕ} {edge M : Rel} {X : ℕ → Bool} → Certificate n m (turn edge) M X → (u : ℕ) → u < n → (X u ≡ true) ↔ Unfixed m n edge u
