@@ -54,7 +54,7 @@ turned k = record {
   oneE = λ u v e a b. k .oneU e u v a b;
 }
 
-pub turn-below : {m n : ℕ} {edge M : Rel} → Pairing m n edge M → size n m (turn M) ≤ size m n M
+turn-below : {m n : ℕ} {edge M : Rel} → Pairing m n edge M → size n m (turn M) ≤ size m n M
 turn-below {m} {n} {edge} {M} k = count-inject n m (λ u. any m (turn M u)) (λ e. any n (M e)) (λ u e. M e u ≡ true) (λ u v e a b. k .oneU e u v a b)
     (λ u h t. given (any-where (turn M u) t) (λ (e, b, w). (e, b, w, any-here (M e) u h w)))
 
