@@ -3,3 +3,4 @@ pub mod Pairing
 pub mod First
 pub mod Holders
 pub mod Looking
+pub mod Members
