@@ -22,7 +22,8 @@ use Rattle.pairing.specs.Holders.{holder, held, Holds, Asking, Searched,
 use Rattle.pairing.specs.First.{Partners}
 use Rattle.pairing.specs.Choosing.{HeldBy, Keeps, Tried, Settled}
 use Rattle.pairing.proofs.Sizes.{full-turned}
-use Rattle.pairing.proofs.Searching.{Given, giving, asks, moves}
+use Rattle.pairing.proofs.Give.{Given}
+use Rattle.pairing.proofs.Searching.{giving, asks, moves}
 use Rattle.pairing.proofs.Hall.{refuted}
 use Rattle.pairing.proofs.Choice.{full-partners, lowest}
 
@@ -109,7 +110,7 @@ module _ {n : ℕ} {edge : Rel} {h k : List Equation} {e w : ℕ} (full : Full n
   others i v ne t = r .other i v (λ q. ne (full .ok .oneE i e w (rw q at t) own)) t
 
   -- the holder g of u was asked to move on
-  module _ {g u : ℕ} {k′ : List Equation} (ed : edge e u ≡ true) (hg : held h g u ≡ true) (later : e < g) (gv : Given k k′ e u) where
+  module _ {g u : ℕ} (k′ : List Equation) (ed : edge e u ≡ true) (hg : held h g u ≡ true) (later : e < g) (gv : Given (held k) (held k′) e u) where
     holds : held k g u ≡ true
     holds = others g u (λ q. absurd (omega arith)) hg
 
@@ -168,7 +169,7 @@ module _ {n : ℕ} {edge : Rel} {h : List Equation} {e u w : ℕ} {x : Equation}
   released : Released h (set h w (record { 0 = 0 })) w
   released = let l = a .full .ok .col e w (a .own) in let b = a .limits in releasing h w (record { 0 = 0 }) (rw (a .all) (omega arith)) refl
 
-  taken : Given (set h w (record { 0 = 0 })) swapped e u
+  taken : Given (held (set h w (record { 0 = 0 }))) (held swapped) e u
   taken = giving (set h w (record { 0 = 0 })) e u x (within (a .all) (a .unknown) (a .limits)) (a .number)
     where
       within : length h ≡ limit → u < n → n ≤ limit → u < length (set h w (record { 0 = 0 }))
@@ -181,10 +182,10 @@ module _ {n : ℕ} {edge : Rel} {h : List Equation} {e u w : ℕ} {x : Equation}
   after = let l = a .later in omega arith
 
   pub swapped-asks : Asking n n edge (holder h u - 1) (marks (suc e)) swapped
-  swapped-asks = holder-asks (a .full) (a .equation) (a .limits) (a .own) released (a .occurs) by after taken
+  swapped-asks = holder-asks (a .full) (a .equation) (a .limits) (a .own) released swapped (a .occurs) by after taken
 
   pub swapped-tried : {got : ℕ} {k : List Equation} {b : List Bool} → Searched n n edge (holder h u - 1) (marks (suc e)) swapped got k b → Tried n edge e u h (not (eqb got 0)) k
-  swapped-tried = tried-search (a .full) (a .equation) (a .limits) (a .own) released (a .occurs) by after taken
+  swapped-tried = tried-search (a .full) (a .equation) (a .limits) (a .own) released swapped (a .occurs) by after taken
 
 -- the unknown does not occur in e
 pub tried-absent : {n : ℕ} {edge : Rel} {e u : ℕ} {h : List Equation} → e < n → edge e u ≡ false → Tried n edge e u h false h

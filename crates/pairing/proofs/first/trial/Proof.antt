@@ -10,7 +10,7 @@ use borrow.Author.Tests.{eq-eqb, not-true, not-false}
 use Rattle.table.specs.Model.{limit, occursAt}
 use Rattle.table.specs.declared.number.Equation.{Equation}
 use Rattle.pairing.specs.Holders.{holder, held, Asking}
-use Rattle.pairing.proofs.Searching.{Given, giving, widen}
+use Rattle.pairing.proofs.Searching.{widen}
 use Rattle.pairing.proofs.Trying.{marks, owns, Asked, swapped-asks, swapped-tried, tried-absent, tried-held}
 use Rattle.pairing.proofs.first.trial.Statement.{statement}
 use Rattle.pairing.proofs.first.trial.Tie as tie
