@@ -104,10 +104,10 @@ asked-at t c =
 given-at : (t : ℕ) (c : Wanting t) → Given
     (held (c .before .before .before .before .before .before .before .before .before .args .holders))
     (held
-      (set
-        (c .before .before .before .before .before .before .before .before .before .args .holders)
-        (c .place3 .result)
-        (c .before .before .before .before .before .before .before .before .before .args .asker)))
+    (set
+    (c .before .before .before .before .before .before .before .before .before .args .holders)
+    (c .place3 .result)
+    (c .before .before .before .before .before .before .before .before .before .args .asker)))
     (c .before .before .before .before .before .before .before .before .before .args .asker .0 - 1)
     (c .place3 .result)
 given-at t c =
