@@ -1,0 +1,5 @@
+-- The laws of this crate, for its proofs and for those of the crates above it.
+pub mod High
+pub mod Fit
+pub mod Gap
+pub mod Raise

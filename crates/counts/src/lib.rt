@@ -1,0 +1,1 @@
+// The least counts, the tops, and the table of leading occurrences.
