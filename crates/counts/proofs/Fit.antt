@@ -11,7 +11,7 @@ use Rattle.laws.proofs.Search.{seek}
 use Rattle.laws.proofs.Sum.{sum-add, sum-bound}
 use Rattle.laws.proofs.Inject.{inject, count-misses}
 use Rattle.pairing.specs.Pairing.{Rel, Pairing, Full}
-use Rattle.counts.specs.Fit.{Fits, Least, largest, high, freedom}
+use Rattle.counts.specs.Fit.{Fits, Least, largest, high, freedomOf}
 use Rattle.counts.proofs.High.{high-over, high-most}
 
 pub count-all : (n : ℕ) → count n (λ i. true) ≡ n
@@ -83,7 +83,7 @@ one-top n edge ord c d c′ d′ l l′ u h =
 
 -- with orders at most k the freedom is at most k for each equation
 pub freedom-high : (n k : ℕ) (edge : Rel) (ord : ℕ → ℕ → ℕ) (c d : ℕ → ℕ) → Fits n n edge ord c d
-    → ((e u : ℕ) → e < n → u < n → ord e u ≤ k) → freedom n n c d ≤ n * k
+    → ((e u : ℕ) → e < n → u < n → ord e u ≤ k) → freedomOf n n c d ≤ n * k
 freedom-high n k edge ord c d fit orders =
     let ok = fit .full .ok in
     let a = inject n n d (λ e. k + c e) (λ u e. fit .pairs e u ≡ true) (λ u v e. ok .oneU e u v)

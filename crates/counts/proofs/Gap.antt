@@ -13,7 +13,7 @@ use Rattle.laws.proofs.Search.{seek, any-here, any-where, any-none}
 use Rattle.laws.proofs.Sum.{bit-true, bit-false}
 use Rattle.laws.proofs.Inject.{count-misses}
 use Rattle.pairing.specs.Pairing.{Rel, Pairing, Full}
-use Rattle.counts.specs.Fit.{Fits, Least, largest, index}
+use Rattle.counts.specs.Fit.{Fits, Least, largest, indexOf}
 use Rattle.counts.proofs.High.{largest-most}
 use Rattle.counts.proofs.Fit.{met, count-all}
 
@@ -103,7 +103,7 @@ module _ (m n k : ℕ) (edge : Rel) (ord : ℕ → ℕ → ℕ) (orders : (e u :
         let x : below m c (c e) * k ≤ (m - 1) * k = mul-le-mul-right k (omega (arith, count-all m)) in
         omega arith
 
-    pub index-bound : index m c ≤ (m - 1) * k
+    pub index-bound : indexOf m c ≤ (m - 1) * k
     index-bound = largest-most m c ((m - 1) * k) count-bound
 
 -- every top is at most that and one order

@@ -35,9 +35,9 @@ abbrev pub leading : Rel → (ℕ → ℕ → ℕ) → (ℕ → ℕ) → (ℕ �
 leading edge ord c d e u = edge e u && eqb (d u) (ord e u + c e)
 
 -- index: the largest count
-abbrev pub index : ℕ → (ℕ → ℕ) → ℕ
-index m c = largest m c
+abbrev pub indexOf : ℕ → (ℕ → ℕ) → ℕ
+indexOf m c = largest m c
 
 -- freedom: sum of tops less sum of counts
-abbrev pub freedom : ℕ → ℕ → (ℕ → ℕ) → (ℕ → ℕ) → ℕ
-freedom m n c d = sum n d - sum m c
+abbrev pub freedomOf : ℕ → ℕ → (ℕ → ℕ) → (ℕ → ℕ) → ℕ
+freedomOf m n c d = sum n d - sum m c

@@ -36,6 +36,12 @@ leadingAt t counts tops = leading (occursAt t) (orderAt t) (numberAt counts) (nu
 abbrev pub leadingRows : ℕ → List (List ℕ) → List ℕ → List ℕ → List (List ℕ)
 leadingRows n t counts tops = square (λ e u. bit (ltb e n && (ltb u n && leadingAt t counts tops e u)))
 
+-- what keeps order + count within a byte
+pub record Small (n : ℕ) (t : List (List ℕ)) (counts : List ℕ) : Type 0 where
+  pub within : n ≤ limit
+  pub codes : (e u : ℕ) → e < n → u < n → codeAt t e u ≤ topCode
+  pub few : (e : ℕ) → e < n → numberAt counts e ≤ limit * topOrder
+
 -- a table of n equations and n unknowns that was judged, and some pairing of all its equations
 pub record Ready (n : ℕ) (t : List (List ℕ)) : Type 0 where
   pub within : n ≤ limit
