@@ -3,3 +3,5 @@ pub mod High
 pub mod Fit
 pub mod Gap
 pub mod Raise
+pub mod Placed
+pub mod Work

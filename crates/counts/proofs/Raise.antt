@@ -34,10 +34,10 @@ raised c C e = c e + bit (C e)
 abbrev taken : ℕ → Rel → (ℕ → Bool) → ℕ → Bool
 taken m M C u = any m (λ g. C g && M g u)
 
-bit-most : (b : Bool) → bit b ≤ 1
+pub bit-most : (b : Bool) → bit b ≤ 1
 bit-most b = test b (λ t. rw t (omega arith)) (λ t. rw t (omega arith))
 
-reach-within : {m n : ℕ} {lead M : Rel} {f e : ℕ} → Pairing m n lead M → f < m → Reach lead M f e → e < m
+pub reach-within : {m n : ℕ} {lead M : Rel} {f e : ℕ} → Pairing m n lead M → f < m → Reach lead M f e → e < m
 reach-within ok h start = h
 reach-within {e} ok h (step u r l p) = ok .row e u p
 

@@ -6,11 +6,12 @@ use Prim.Native.Nat.{ℕ, _+_, _*_, _<_, _≤_}
 use lib.Dec.{ltb}
 use lib.ListN.{getD}
 use Rattle.laws.specs.Count.{bit, sum}
+use Rattle.laws.specs.Marks.{marked}
 use Rattle.laws.specs.Tab.{tab, pick}
 use Rattle.table.specs.Model.{limit, topCode, codeAt, occursAt, orderAt, square}
 use Rattle.table.specs.declared.number.Equation.{Equation}
 use Rattle.pairing.specs.Pairing.{Rel, Pairing, Full, LeftOver}
-use Rattle.pairing.specs.Holders.{held, Holds}
+use Rattle.pairing.specs.Holders.{held}
 use Rattle.counts.specs.Fit.{Fits, Least, high, leading}
 
 -- the number at a place; past the end 0
@@ -49,15 +50,23 @@ pub record Ready (n : ℕ) (t : List (List ℕ)) : Type 0 where
   pub pairs : Rel
   pub full : Full n n (occursAt t) pairs
 
--- the equations before place f hold something, over leading occurrences, and the others nothing; no count is larger than in any fit choice,
--- and by how much a count has risen, the tops' sum has come down towards the counts' sum
-pub record Placed (n : ℕ) (t : List (List ℕ)) (f : ℕ) (counts : List ℕ) (holders : List Equation) : Type 0 where
-  pub pairs : Pairing n n (leading (occursAt t) (orderAt t) (numberAt counts) (highAt n t counts)) (held holders)
-  pub placed : (e : ℕ) → e < f → Holds holders e
-  pub waiting : (e : ℕ) → f ≤ e → LeftOver (held holders) e
-  pub low : (c d : ℕ → ℕ) → Fits n n (occursAt t) (orderAt t) c d → (e : ℕ) → e < n → numberAt counts e ≤ c e
-  pub room : (e : ℕ) → e < n → numberAt counts e + sum n (highAt n t counts) ≤ n * topOrder + sum n (numberAt counts)
-  pub beyond : (e : ℕ) → n ≤ e → numberAt counts e ≡ 0
+-- the equations before place f are paired over leading occurrences, and the others not yet; no count is larger than in any fit choice;
+-- and by as much as a count has risen, the tops' sum has come nearer to the counts' sum
+pub record Placed (n : ℕ) (edge : Rel) (ord : ℕ → ℕ → ℕ) (f : ℕ) (c : ℕ → ℕ) (M : Rel) : Type 0 where
+  pub pairs : Pairing n n (leading edge ord c (high n edge ord c)) M
+  pub placed : (e : ℕ) → e < f → (u : ℕ) × (M e u ≡ true)
+  pub waiting : (e : ℕ) → f ≤ e → LeftOver M e
+  pub low : (c′ d′ : ℕ → ℕ) → Fits n n edge ord c′ d′ → (e : ℕ) → e < n → c e ≤ c′ e
+  pub room : (e : ℕ) → e < n → c e + sum n (high n edge ord c) ≤ n * topOrder + sum n c
+  pub beyond : (e : ℕ) → n ≤ e → c e ≡ 0
+
+-- the same of a table, a list of counts and the holders
+abbrev pub PlacedIn : ℕ → List (List ℕ) → ℕ → List ℕ → List Equation → Type 0
+PlacedIn n t f counts holders = Placed n (occursAt t) (orderAt t) f (numberAt counts) (held holders)
+
+-- 1 more for each that is marked, as far as n, and 0 beyond
+abbrev pub raisedBy : ℕ → List ℕ → List Bool → List ℕ
+raisedBy n counts asked = tab limit (λ e. pick (ltb e n) (numberAt counts e + bit (marked asked e)) 0)
 
 -- the answer: the least counts, their tops, and a pairing of all equations over the leading occurrences; 0 beyond the last equation and unknown
 pub record Answer (n : ℕ) (t : List (List ℕ)) (counts tops : List ℕ) (holders : List Equation) : Type 0 where
