@@ -2,3 +2,5 @@
 pub mod Pairing
 pub mod First
 pub mod Holders
+pub mod Looking
+pub mod Members
