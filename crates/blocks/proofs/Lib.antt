@@ -1,0 +1,3 @@
+-- The laws of blocks.
+pub mod Reach
+pub mod Placed
