@@ -11,6 +11,7 @@ use Rattle.laws.proofs.Tests.{test, tests, either, given}
 use Rattle.pairing.specs.Pairing.{Rel}
 use Rattle.blocks.specs.Blocks.{Reaches, Shares, Stands, Ready, before, Placed}
 use Rattle.blocks.specs.Blocks.Reaches.{here, step}
+use Rattle.blocks.specs.Steps.{Within}
 use Rattle.blocks.proofs.Reach.{onward, shares-self, shares-sym, shares-trans}
 
 -- the numbers rise along the places
@@ -134,3 +135,66 @@ module _ {m : ℕ} {R : Rel} {o b : ℕ → ℕ} {k : ℕ} (P : Placed m R o b k
 
   pub needs-before : (i j : ℕ) → i < m → j < m → R (o i) (o j) ≡ true → (b i ≡ b j → ⊥) → j < i
   needs-before i j h l t ne = place-before P j i l h (needs-earlier i j h l t ne)
+
+-- what relations that reach the same have in common
+pub record Alike (R S : Rel) : Type 0 where
+  pub there : {e f : ℕ} → Reaches R e f → Reaches S e f
+  pub back : {e f : ℕ} → Reaches S e f → Reaches R e f
+
+alike-self : {R : Rel} → Alike R R
+alike-self = record { there = λ r. r; back = λ r. r }
+
+shares-there : {R S : Rel} {e f : ℕ} → Alike R S → Shares R e f → Shares S e f
+shares-there A s = record { there = A .there (s .there); back = A .there (s .back) }
+
+shares-back : {R S : Rel} {e f : ℕ} → Alike R S → Shares S e f → Shares R e f
+shares-back A s = record { there = A .back (s .there); back = A .back (s .back) }
+
+module _ {m : ℕ} {R : Rel} {o b : ℕ → ℕ} {k : ℕ} (P : Placed m R o b k) (W : Within m R) where
+  shares? : (e f : ℕ) → e < m → f < m → Shares R e f ⊎ (Shares R e f → ⊥)
+  shares? e f h l = given (P .every e h) (λ (i, u, p). given (P .every f l) (λ (j, v, q). test (eqb (b i) (b j))
+      (λ t. inl (rw (p, q) at (P .same i j u v (eqb-true (b i) (b j) t))))
+      (λ t. inr (λ s. eqb-false (b i) (b j) t (P .shared i j u v (rw (p, q) s))))))
+
+  -- whatever is needed, or reached, by what stands, stands
+  stood-next : (n x y : ℕ) → Stands m o b n x → R x y ≡ true → Stands m o b n y
+  stood-next n x y s t = given (P .every y (W .col x y t)) (λ (j, l, q).
+      let e = s .earlier in
+      test (eqb (b (s .place)) (b j))
+      (λ c. record { place = j; within = l; is = q; earlier = omega (arith, tests) })
+      (λ c. let z = needs-earlier P (s .place) j (s .within) l (rw (s .is, q) t) (eqb-false (b (s .place)) (b j) c) in
+      record { place = j; within = l; is = q; earlier = omega arith }))
+
+  stood-onward : (n : ℕ) {x y : ℕ} → Stands m o b n x → Reaches R x y → Stands m o b n y
+  stood-onward n s here = s
+  stood-onward n {x} s (step y t r) = stood-onward n (stood-next n x y s t) r
+
+  -- a block is ready as soon as the blocks that it needs at once stand: those that they reach stand then, too
+  leaves : {S : Rel} → Within m S → Alike R S → (n e : ℕ) → e < m → Ready m S o b n e
+      → {f g : ℕ} → Shares S e f → Reaches S f g → (Shares S e g → ⊥) → Stands m o b n g
+  leaves B A n e h r s here d = absurd (d s)
+  leaves B A n e h r {f} s (step y t w) d = either (shares? e y h (B .col f y t))
+      (λ c. leaves B A n e h r (shares-there A c) w d)
+      (λ c. stood-onward n (r .stand f y s t (λ a. c (shares-back A a))) (A .back w))
+
+  -- so a placing depends on what is reached alone
+  pub placed-alike : {S : Rel} → Within m S → Alike R S → Placed m S o b k
+  placed-alike {S} B A = record {
+    within = P .within;
+    once = P .once;
+    every = P .every;
+    from-one = P .from-one;
+    rises = P .rises;
+    by-one = P .by-one;
+    last = P .last;
+    same = λ i j h l e. shares-there A (P .same i j h l e);
+    shared = λ i j h l s. P .shared i j h l (shares-back A s);
+    ascends = P .ascends;
+    ready = λ i h. record {
+      stand = λ f g s t d. leaves W alike-self (b i) (o i) (P .within i h) (P .ready i h) (shares-back A s) (A .back (step g t here))
+          (λ c. d (shares-there A c));
+    };
+    lowest = λ i j h l n r. P .lowest i j h l n (record {
+      stand = λ f g s t d. leaves B A (b i) (o j) (P .within j l) r (shares-there A s) (A .there (step g t here)) (λ c. d (shares-back A c));
+    });
+  }
