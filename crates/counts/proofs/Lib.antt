@@ -2,6 +2,6 @@
 pub mod High
 pub mod Fit
 pub mod Gap
-pub mod Raise
+pub mod Raising
 pub mod Placed
 pub mod Work

@@ -1,20 +1,21 @@
 -- What is kept while the counts are raised: it holds at the start with all counts 0 and no pairs, a raise keeps it and lowers the tops' sum less the counts' sum,
 -- and with every equation paired it is the answer. Some pairing of all equations, leading or not, keeps the tops' sum from falling below the counts' sum.
-use mathlib.Core.Path.{_≡_, refl, sym, _∙_, ap}
+use mathlib.Core.Path.{_≡_, _∙_}
 use mathlib.Core.Bool.{Bool, true, false, _&&_}
-use Prim.Native.Nat.{ℕ, zero, suc, _+_, _-_, _*_, _<_, _≤_}
+use Prim.Native.Nat.{ℕ, _+_, _-_, _*_, _<_, _≤_}
 use native.Mathlib.Omega.{arith}
 use lib.Dec.{eqb}
 use borrow.Author.Tests.{eqb-true, eq-eqb}
 use Rattle.laws.specs.Count.{bit, sum}
-use Rattle.laws.proofs.Tests.{test, clash, not-true, and-left, and-right, and-both}
-use Rattle.laws.proofs.Sum.{bit-true, bit-false, sum-bound}
-use Rattle.pairing.specs.Pairing.{Rel, Pairing, Full}
+use Rattle.laws.proofs.Tests.{not-true, and-left, and-right, and-both}
+use Rattle.laws.proofs.Sum.{bit-false, sum-bound}
+use Rattle.pairing.specs.Pairing.{Rel, Full}
+use Rattle.pairing.proofs.Hall.{reach-within}
 use Rattle.counts.specs.Fit.{Fits, Least, high, leading}
 use Rattle.counts.specs.Work.{topOrder, Placed}
 use Rattle.counts.proofs.High.{high-over, high-most}
 use Rattle.counts.proofs.Fit.{potential}
-use Rattle.counts.proofs.Raise.{Stuck, raised, reach-within, bit-most, raise-pairs, falls, rise}
+use Rattle.counts.proofs.Raising.{Stuck, raised, bit-most, raise-pairs, falls, rise}
 
 -- all counts 0 and no pairs
 pub begin : (n : ℕ) (edge : Rel) (ord : ℕ → ℕ → ℕ) (c : ℕ → ℕ) (M : Rel) → ((e u : ℕ) → e < n → u < n → ord e u ≤ topOrder)

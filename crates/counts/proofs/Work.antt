@@ -1,29 +1,28 @@
 -- How the search over the table of leading occurrences serves the raising: the table says what the definition says, a search that found nothing is stuck in the sense of
--- proofs/Raise, and what is kept while the counts are raised holds at the start, after a raise, after a search that found, and gives the answer at the end.
+-- proofs/Raising, and what is kept while the counts are raised holds at the start, after a raise, after a search that found, and gives the answer at the end.
 use mathlib.Core.Path.{_≡_, refl, sym, _∙_, ap, fun-ext}
 use mathlib.Core.Bool.{Bool, true, false, not, _&&_}
-use mathlib.Core.List.{List, [], _∷_}
-use mathlib.Core.Logic.{_⊎_, inl, inr}
-use Prim.Native.Nat.{ℕ, zero, suc, _+_, _-_, _*_, _<_, _≤_}
+use mathlib.Core.List.{List, []}
+use Prim.Native.Nat.{ℕ, zero, suc, _+_, _-_, _<_, _≤_}
 use native.Mathlib.Omega.{arith}
-use lib.Dec.{leb, ltb, eqb}
-use lib.ListN.{length, getD, replicate}
-use borrow.Author.Tests.{lt-ltb, le-ltb, ltb-true, ltb-false, eqb-true, eqb-false, eq-eqb}
+use lib.Dec.{ltb, eqb}
+use lib.ListN.{getD, replicate}
+use borrow.Author.Tests.{lt-ltb, le-ltb, ltb-true, ltb-false, eqb-true}
 use Rattle.laws.specs.Count.{bit, sum}
 use Rattle.laws.specs.Marks.{marked}
 use Rattle.laws.specs.Tab.{tab, pick}
-use Rattle.laws.proofs.Tests.{test, either, given, clash, tests, not-true, and-left, and-right, and-both}
-use Rattle.laws.proofs.Sum.{bit-true, bit-false, sum-bound, sum-same}
+use Rattle.laws.proofs.Tests.{test, either, given, clash, tests, not-true, and-left, and-right}
+use Rattle.laws.proofs.Sum.{bit-false}
 use Rattle.laws.proofs.Tab.{getD-tab, getD-past}
-use Rattle.table.specs.Model.{limit, topCode, codeAt, occursAt, orderAt, square}
+use Rattle.table.specs.Model.{limit, codeAt, occursAt, orderAt, square}
 use Rattle.table.specs.declared.number.Equation.{Equation}
 use Rattle.table.proofs.Model.{square-at}
-use Rattle.pairing.specs.Pairing.{Rel, Pairing, Full, LeftOver}
-use Rattle.pairing.specs.Holders.{holder, held, Holds, Reach, start, step, Found, Nothing, Asking, Searched}
-use Rattle.counts.specs.Fit.{Fits, Least, high, leading}
-use Rattle.counts.specs.Work.{numberAt, topOrder, highAt, topsOf, leadingAt, leadingRows, Small, Ready, Placed, PlacedIn, raisedBy, Answer}
-use Rattle.counts.proofs.High.{high-over, high-most}
-use Rattle.counts.proofs.Raise.{Stuck, raised, reach-within}
+use Rattle.pairing.specs.Pairing.{Rel}
+use Rattle.pairing.specs.Holders.{holder, held, Reach, start, step, Found, Nothing, Asking, Searched}
+use Rattle.pairing.proofs.Hall.{reach-within}
+use Rattle.counts.specs.Fit.{leading}
+use Rattle.counts.specs.Work.{numberAt, topOrder, highAt, topsOf, leadingAt, leadingRows, Small, Ready, Placed, PlacedIn, raisedBy, Chosen}
+use Rattle.counts.proofs.Raising.{Stuck, raised}
 use Rattle.counts.proofs.Placed.{begin, count-few, raise, nearer, least, paired}
 
 -- a list of one value
@@ -91,15 +90,17 @@ module _ (n : ℕ) (t : List (List ℕ)) (counts : List ℕ) (small : n ≤ limi
   to-lead : (e u : ℕ) → rowsOf n t counts e u ≡ true → leadOf n t counts e u ≡ true
   to-lead e u o = given (rows-within n t counts (topsOf n t counts) small e u o) (λ (h, k). sym (same e u h k) ∙ o)
 
-  pub asking : (f : ℕ) (holders : List Equation) → f < n → PlacedIn n t f counts holders → Asking n n (rowsOf n t counts) f (replicate limit false) holders
-  asking f holders b p = record {
-        equations = small;
+  -- the search may be asked, and speaks of the n equations
+  pub asking : (m f : ℕ) (holders : List Equation) → n ≤ m → m ≤ limit → f < n → PlacedIn n t f counts holders
+      → Asking m n (rowsOf n t counts) f (replicate limit false) holders
+  asking m f holders more most b p = record {
+        equations = most;
         unknowns = small;
-        asker = b;
+        asker = omega arith;
         fresh = getD-same limit f false;
         free = p .waiting f (omega arith);
         ok = record {
-              row = p .pairs .row;
+              row = λ e u m. let r = p .pairs .row e u m in omega arith;
               col = p .pairs .col;
               fits = λ e u m. same e u (p .pairs .row e u m) (p .pairs .col e u m) ∙ p .pairs .fits e u m;
               oneU = p .pairs .oneU;
@@ -190,7 +191,7 @@ module _ (n : ℕ) (t : List (List ℕ)) (ready : Ready n t) where
         (stuck n t counts (ready .within) f holders asked b p none))
 
   -- after the last search
-  pub answer : (counts : List ℕ) (holders : List Equation) → PlacedIn n t n counts holders → Answer n t counts (topsOf n t counts) holders
+  pub answer : (counts : List ℕ) (holders : List Equation) → PlacedIn n t n counts holders → Chosen n t counts (topsOf n t counts) holders
   answer counts holders p =
       let tops = tops-at n t counts (ready .within) in
       record {

@@ -69,7 +69,7 @@ abbrev pub raisedBy : ℕ → List ℕ → List Bool → List ℕ
 raisedBy n counts asked = tab limit (λ e. pick (ltb e n) (numberAt counts e + bit (marked asked e)) 0)
 
 -- the answer: the least counts, their tops, and a pairing of all equations over the leading occurrences; 0 beyond the last equation and unknown
-pub record Answer (n : ℕ) (t : List (List ℕ)) (counts tops : List ℕ) (holders : List Equation) : Type 0 where
+pub record Chosen (n : ℕ) (t : List (List ℕ)) (counts tops : List ℕ) (holders : List Equation) : Type 0 where
   pub least : Least n n (occursAt t) (orderAt t) (numberAt counts) (numberAt tops)
   pub paired : Full n n (leadingAt t counts tops) (held holders)
   pub countsBeyond : (e : ℕ) → n ≤ e → numberAt counts e ≡ 0

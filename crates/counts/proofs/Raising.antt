@@ -1,22 +1,21 @@
 -- One raise: the asked equations of a search that found nothing get 1 more, and the tops follow. The pairs stay leading, no count passes that of a fit choice,
 -- and the tops' sum comes at least 1 nearer to the counts' sum. Over any relation, any orders, any numbers of equations and unknowns.
-use mathlib.Core.Path.{_≡_, refl, sym, _∙_, ap}
-use mathlib.Core.Bool.{Bool, true, false, not, _&&_}
-use mathlib.Core.Logic.{_⊎_, inl, inr}
-use Prim.Native.Nat.{ℕ, zero, suc, _+_, _-_, _*_, _<_, _≤_}
+use mathlib.Core.Path.{_≡_}
+use mathlib.Core.Bool.{Bool, true, false, _&&_}
+use Prim.Native.Nat.{ℕ, _+_, _<_, _≤_}
 use native.Mathlib.Omega.{arith}
-use lib.Dec.{leb, ltb, eqb}
+use lib.Dec.{eqb}
 use borrow.Author.Tests.{eqb-true, eqb-false, eq-eqb}
-use Rattle.laws.specs.Count.{bit, sum, count, any}
-use Rattle.laws.proofs.Tests.{test, either, given, clash, tests, not-true, and-left, and-right, and-both}
-use Rattle.laws.proofs.Search.{seek, any-here, any-where, any-none}
+use Rattle.laws.specs.Count.{bit, sum, any}
+use Rattle.laws.proofs.Tests.{test, given, clash, tests, not-true, and-left, and-right, and-both}
+use Rattle.laws.proofs.Search.{any-here, any-where}
 use Rattle.laws.proofs.Sum.{bit-true, bit-false, sum-add, sum-mono}
 use Rattle.laws.proofs.Inject.{count-misses, onto}
-use Rattle.pairing.specs.Pairing.{Rel, Pairing, Full, LeftOver}
+use Rattle.pairing.specs.Pairing.{Rel, Pairing, LeftOver}
 use Rattle.pairing.specs.Holders.{Reach, start, step}
-use Rattle.counts.specs.Fit.{Fits, Least, largest, high, leading}
+use Rattle.pairing.proofs.Hall.{reach-within}
+use Rattle.counts.specs.Fit.{Fits, high, leading}
 use Rattle.counts.proofs.High.{high-over, high-most}
-use Rattle.counts.proofs.Fit.{high-top}
 
 -- a search from f over the leading occurrences found nothing: who was asked
 pub record Stuck (m n : ℕ) (lead M : Rel) (f : ℕ) (C : ℕ → Bool) : Type 0 where
@@ -36,10 +35,6 @@ taken m M C u = any m (λ g. C g && M g u)
 
 pub bit-most : (b : Bool) → bit b ≤ 1
 bit-most b = test b (λ t. rw t (omega arith)) (λ t. rw t (omega arith))
-
-pub reach-within : {m n : ℕ} {lead M : Rel} {f e : ℕ} → Pairing m n lead M → f < m → Reach lead M f e → e < m
-reach-within ok h start = h
-reach-within {e} ok h (step u r l p) = ok .row e u p
 
 reach-asked : {m n : ℕ} {lead M : Rel} {f e : ℕ} {C : ℕ → Bool} → Pairing m n lead M → Stuck m n lead M f C → Reach lead M f e → C e ≡ true
 reach-asked ok s start = s .self
