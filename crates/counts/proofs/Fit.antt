@@ -77,8 +77,8 @@ pub freedom-high : (n k : ℕ) (edge : Rel) (ord : ℕ → ℕ → ℕ) (c d : �
 freedom-high n k edge ord c d fit orders =
     let ok = fit .full .ok in
     let a = inject n n d (λ e. k + c e) (λ u e. fit .pairs e u ≡ true) (λ u v e. ok .oneU e u v)
-            (λ u b. given (met n edge (fit .pairs) (fit .full) u b)
-            (λ (e, p). let t = fit .tight e u p in let o = orders e u (ok .row e u p) b in inr (e, ok .row e u p, p, omega arith))) in
+    (λ u b. given (met n edge (fit .pairs) (fit .full) u b)
+    (λ (e, p). let t = fit .tight e u p in let o = orders e u (ok .row e u p) b in inr (e, ok .row e u p, p, omega arith))) in
     let s = sum-add n (λ e. k) c in
     let b = sum-bound n k (λ e. k) (λ e h. omega arith) in
     omega arith

@@ -15,6 +15,7 @@ use Rattle.pairing.specs.Pairing.{Rel, Pairing, LeftOver}
 use Rattle.pairing.specs.Holders.{Reach, start, step}
 use Rattle.pairing.proofs.Hall.{reach-within}
 use Rattle.counts.specs.Fit.{Fits, high, leading}
+use Rattle.counts.proofs.Over.{over-pairs}
 use Rattle.counts.proofs.High.{high-over, high-most}
 
 -- a search from f over the leading occurrences found nothing: who was asked
@@ -42,7 +43,6 @@ reach-asked {e} ok s (step {a} u r l p) = given (s .closed a u (reach-asked ok s
 
 module _ (m n : ℕ) (edge : Rel) (ord : ℕ → ℕ → ℕ) (c : ℕ → ℕ) (M : Rel) (f : ℕ) (C : ℕ → Bool)
     (ok : Pairing m n (leading edge ord c (high m edge ord c)) M) (s : Stuck m n (leading edge ord c (high m edge ord c)) M f C) where
-
   abbrev lead : Rel
   lead = leading edge ord c (high m edge ord c)
 
@@ -81,7 +81,7 @@ module _ (m n : ℕ) (edge : Rel) (ord : ℕ → ℕ → ℕ) (c : ℕ → ℕ) 
           let k = ok .oneE g e u (and-right (C g) (M g u) q) p in clash (rw k at (and-left (C g) (M g u) q)) a))
 
   pub raise-pairs : Pairing m n (leading edge ord (raised c C) (high m edge ord (raised c C))) M
-  raise-pairs = record { row = ok .row; col = ok .col; fits = pairs-stay; oneU = ok .oneU; oneE = ok .oneE }
+  raise-pairs = over-pairs (omega arith) ok pairs-stay
 
   -- the tops' sum comes nearer to the counts' sum
   pub falls : sum n (high m edge ord (raised c C)) + sum m c < sum n (high m edge ord c) + sum m (raised c C)
@@ -90,9 +90,9 @@ module _ (m n : ℕ) (edge : Rel) (ord : ℕ → ℕ → ℕ) (c : ℕ → ℕ) 
       let b = sum-add n (high m edge ord c) (λ u. bit (taken m M C u)) in
       let d = sum-add m c (λ e. bit (C e)) in
       let k = count-misses n m (taken m M C) C (λ u e. M e u ≡ true) (λ u v e. ok .oneU e u v)
-              (λ u h t. given (any-where {n = m} (λ g. C g && M g u) t) (λ (g, w, q).
-              (g, w, and-right (C g) (M g u) q, and-left (C g) (M g u) q)))
-              f (s .asker) (s .self) (λ u h t p. s .free u p) in
+      (λ u h t. given (any-where {n = m} (λ g. C g && M g u) t) (λ (g, w, q).
+      (g, w, and-right (C g) (M g u) q, and-left (C g) (M g u) q)))
+      f (s .asker) (s .self) (λ u h t p. s .free u p) in
       omega arith
 
   -- every fit choice has more for each that was asked

@@ -1,11 +1,11 @@
 // The least counts of a model that has a pairing of all its equations. Each equation in turn searches over the leading occurrences; as long as it
 // finds nothing, all that were asked are differentiated once more. Some pairing of all equations is what makes the raising end.
-use table::LIMIT;
-use table::number::Equation;
-use pairing::search::Answer;
-use pairing::search::search;
 use crate::lead::leading_rows;
 use crate::tops::tops;
+use pairing::search::Answer;
+use pairing::search::search;
+use table::LIMIT;
+use table::number::Equation;
 ghost use mathlib.Core.Path.{_≡_};
 ghost use mathlib.Core.Bool.{false};
 ghost use Prim.Native.Nat.{ℕ, _+_, _-_, _*_, _<_, _≤_};
@@ -13,7 +13,8 @@ ghost use lib.ListN.{replicate};
 ghost use Rattle.laws.specs.Count.{bit};
 ghost use Rattle.table.specs.Model.{limit, occursAt};
 ghost use Rattle.pairing.specs.Holders.{Searched};
-ghost use Rattle.counts.specs.Work.{numberAt, topOrder, topsOf, leadingRows, Ready, PlacedIn, raisedBy, Chosen};
+ghost use Rattle.counts.specs.Work.{numberAt, topOrder, topsOf, leadingRows, Ready, Chosen};
+ghost use Rattle.counts.specs.Placing.{PlacedIn, raisedBy};
 
 // Counts on the way, and who holds each unknown: an equation's number, or 0.
 pub struct Settled {
@@ -105,5 +106,9 @@ pub fn least(table: &[[u8; LIMIT]; LIMIT], n: usize) -> Choice
         f += 1;
     }
     let tops = tops(table, n, &counts);
-    Choice { counts, tops, holders }
+    Choice {
+        counts,
+        tops,
+        holders,
+    }
 }

@@ -2,16 +2,9 @@
 use Prim.Native.Nat.{_-_}
 use Rattle.table.specs.Model.{limit}
 use Rattle.counts.proofs.Work.{small-in, asking}
-use mathlib.Core.Path.{_≡_, refl, sym, _∙_, ap}
 use native.Mathlib.Omega.{arith}
-use borrow.Author.Needs.{needs}
 use Rattle.counts.proofs.raise.attempt.Statement.{statement}
 use Rattle.counts.proofs.raise.attempt.Tie as tie
-use Rattle.counts.proofs.raise.attempt.Reads as reads
-use Rattle.counts.proofs.raise.attempt.Lts as lts
-use Rattle.counts.proofs.lead.leading_rows.Reads as leading-rows-reads
-use Rattle.counts.proofs.tops.tops.Reads as tops-reads
-use Rattle.pairing.proofs.search.search.Reads as search-reads
 
 tops-requires : tie.Need-tops-requires
 tops-requires c κs = small-in (c .args .n) (c .args .table .now) (c .pre .0) (c .args .asker .0 - 1) (c .args .counts .now) (c .args .holders) (c .pre .3)

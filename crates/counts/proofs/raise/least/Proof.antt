@@ -1,17 +1,11 @@
 -- `raise::least`: each equation in turn is settled; with all of them paired what is kept is the answer.
-use Prim.Native.Nat.{ℕ, _-_, _+_, _≤_}
-use Rattle.counts.specs.Work.{PlacedIn}
+use Prim.Native.Nat.{_-_, _≤_}
+use Rattle.counts.specs.Placing.{PlacedIn}
 use Rattle.counts.proofs.Work.{begin-in, small-in, answer}
-use mathlib.Core.Path.{_≡_, refl, sym, _∙_, ap}
+use mathlib.Core.Path.{_≡_}
 use native.Mathlib.Omega.{arith}
-use borrow.Author.Needs.{needs}
 use Rattle.counts.proofs.raise.least.Statement.{statement}
 use Rattle.counts.proofs.raise.least.Tie as tie
-use Rattle.counts.proofs.raise.least.Reads as reads
-use Rattle.counts.proofs.raise.least.Lts as lts
-use Rattle.counts.proofs.raise.settle.Reads as settle-reads
-use Rattle.counts.proofs.tops.tops.Reads as tops-reads
-use Rattle.table.proofs.number.Equation.at.Reads as at-reads
 
 abbrev Inv-loop : tie.InvT-loop
 Inv-loop table n counts₀ holders₀ f₀ counts holders f = (f ≤ n) × PlacedIn n table f counts holders

@@ -1,12 +1,9 @@
 -- `raise::one_more` adds 1 by the test of the mark.
 use Rattle.laws.proofs.Sum.{bit-true, bit-false}
-use mathlib.Core.Path.{_≡_, refl, sym, _∙_, ap}
 use native.Mathlib.Omega.{arith}
 use borrow.Author.Needs.{needs}
 use Rattle.counts.proofs.raise.one_more.Statement.{statement}
 use Rattle.counts.proofs.raise.one_more.Tie as tie
-use Rattle.counts.proofs.raise.one_more.Reads as reads
-use Rattle.counts.proofs.raise.one_more.Lts as lts
 
 add-result : tie.Need-add-result
 add-result c = search needs

@@ -8,14 +8,11 @@ use Rattle.laws.specs.Tab.{tab, upto}
 use Rattle.laws.proofs.Tab.{fill-start, fill-step, replicate-tab}
 use Rattle.table.specs.Model.{limit}
 use Rattle.counts.specs.Work.{numberAt}
-use mathlib.Core.Path.{_≡_, refl, sym, _∙_, ap}
+use mathlib.Core.Path.{_≡_, _∙_}
 use native.Mathlib.Omega.{arith}
 use borrow.Author.Needs.{needs}
 use Rattle.counts.proofs.raise.raised.Statement.{statement}
 use Rattle.counts.proofs.raise.raised.Tie as tie
-use Rattle.counts.proofs.raise.raised.Reads as reads
-use Rattle.counts.proofs.raise.raised.Lts as lts
-use Rattle.counts.proofs.raise.one_more.Reads as one-more-reads
 
 abbrev more : List ℕ → List Bool → ℕ → ℕ
 more counts asked e = numberAt counts e + bit (marked asked e)

@@ -1,17 +1,13 @@
 -- `raise::settle`: a search that found places one equation more; one that found nothing is stuck, and the raise keeps what is kept and brings the sums nearer.
-use Prim.Native.Nat.{ℕ, _-_, _+_, _<_}
+use Prim.Native.Nat.{_-_, _+_}
 use Rattle.laws.specs.Count.{sum}
-use Rattle.counts.specs.Work.{numberAt, highAt, PlacedIn}
+use Rattle.counts.specs.Work.{numberAt, highAt}
+use Rattle.counts.specs.Placing.{PlacedIn}
 use Rattle.counts.proofs.Work.{small-in, found, raise-in, nearer-in}
-use mathlib.Core.Path.{_≡_, refl, sym, _∙_, ap}
+use mathlib.Core.Path.{_≡_}
 use native.Mathlib.Omega.{arith}
-use borrow.Author.Needs.{needs}
 use Rattle.counts.proofs.raise.settle.Statement.{statement}
 use Rattle.counts.proofs.raise.settle.Tie as tie
-use Rattle.counts.proofs.raise.settle.Reads as reads
-use Rattle.counts.proofs.raise.settle.Lts as lts
-use Rattle.counts.proofs.raise.attempt.Reads as attempt-reads
-use Rattle.counts.proofs.raise.raised.Reads as raised-reads
 
 abbrev Inv-loop : tie.InvT-loop
 Inv-loop table n asker holders counts₀ counts = PlacedIn n table (asker .0 - 1) counts holders
@@ -47,7 +43,7 @@ loop-less c =
     let l = c .before .before .before .before .before .before .before .before .loop in
     let r = c .before .before .before .before .before .before .attempt in
     rw (c .raised .ensures) (nearer-in (s .args .n) (s .args .table .now) (s .pre .0) (s .args .asker .0 - 1) (l .counts) (s .args .holders) (r .result .asked) (omega arith) (l .inv)
-        (r .ensures .nothing (c .before .before .before .before .if1 .left) .1))
+    (r .ensures .nothing (c .before .before .before .before .if1 .left) .1))
 
 loop-again : tie.Need-loop-again Inv-loop μ-loop
 loop-again c =
@@ -55,7 +51,7 @@ loop-again c =
     let l = c .before .before .before .before .before .before .before .before .loop in
     let r = c .before .before .before .before .before .before .attempt in
     rw (c .raised .ensures) (raise-in (s .args .n) (s .args .table .now) (s .pre .0) (s .args .asker .0 - 1) (l .counts) (s .args .holders) (r .result .asked) (omega arith) (l .inv)
-        (r .ensures .nothing (c .before .before .before .before .if1 .left) .1))
+    (r .ensures .nothing (c .before .before .before .before .if1 .left) .1))
 
 pub settle-spec : {M : Type 1} → statement M
 settle-spec =
