@@ -14,20 +14,13 @@ use Rattle.laws.proofs.Search.{any-here, any-where}
 use Rattle.laws.proofs.Sum.{sum-same, sum-add}
 use Rattle.laws.proofs.Inject.{count-inject, count-misses}
 use Rattle.pairing.specs.Pairing.{Rel, Pairing, size, Largest, Rank, LeftOver, Surplus}
-use Rattle.pairing.specs.Holders.{Reach}
+use Rattle.pairing.specs.Left.{Certificate}
 use Rattle.pairing.proofs.Along.{reached-surplus}
 use Rattle.pairing.proofs.Sizes.{count-not, size-rows, has-pair, no-pair, largest-size}
 
 any-same : (n : ℕ) (p q : ℕ → Bool) → ((i : ℕ) → i < n → p i ≡ q i) → any n p ≡ any n q
 any-same zero p q h = refl
 any-same (suc n) p q h = let a = h n (omega arith) in let b = any-same n p q (λ i k. h i (omega arith)) in cc
-
-pub record Certificate (m n : ℕ) (edge M : Rel) (X : ℕ → Bool) : Type 0 where
-  pub ok : Pairing m n edge M
-  pub within : (e : ℕ) → X e ≡ true → e < m
-  pub out : (e : ℕ) → e < m → X e ≡ false → (u : ℕ) × (M e u ≡ true)
-  pub inn : (e u : ℕ) → X e ≡ true → u < n → edge e u ≡ true → (g : ℕ) × (X g ≡ true) × (M g u ≡ true)
-  pub reached : (e : ℕ) → X e ≡ true → (f : ℕ) × (X f ≡ true) × LeftOver M f × Reach edge M f e
 
 -- where the equation e of a pairing Q goes in M
 data Goes (M Q : Rel) (X : ℕ → Bool) (e g : ℕ) : Type 0 where

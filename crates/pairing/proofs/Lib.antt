@@ -10,3 +10,5 @@ pub mod First
 pub mod Hall
 pub mod Looking
 pub mod Searching
+pub mod Pass
+pub mod Over

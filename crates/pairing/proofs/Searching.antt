@@ -213,3 +213,20 @@ module _ {m n : ℕ} {edge : Rel} {f : ℕ} {a a′ : List Bool} {h h′ : List 
 
   pub has-nothing : got ≡ 0 → h′ ≡ h → Nothing n edge f a a′ h → Searched m n edge f a h got h′ a′
   has-nothing z q r = record { found = λ ne. absurd (ne z); nothing = λ _. (q, r) }
+
+-- what is asked of fewer equations is asked of as many as there may be
+pub widen : {m n : ℕ} {edge : Rel} {f : ℕ} {a : List Bool} {h : List Equation} → Asking m n edge f a h → Asking limit n edge f a h
+widen s = record {
+  equations = omega arith;
+  unknowns = s .unknowns;
+  asker = omega arith;
+  fresh = s .fresh;
+  free = s .free;
+  ok = record {
+    row = λ e u t. let r = s .ok .row e u t in omega arith;
+    col = s .ok .col;
+    fits = s .ok .fits;
+    oneU = s .ok .oneU;
+    oneE = s .ok .oneE;
+  };
+}

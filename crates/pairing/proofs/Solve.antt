@@ -6,7 +6,8 @@ use Prim.Native.Nat.{ℕ, _<_}
 use Rattle.laws.proofs.Tests.{given, not-true}
 use Rattle.pairing.specs.Pairing.{Rel, turn, Rank, Full, Solvable, Surplus, Unfixed}
 use Rattle.pairing.proofs.Sizes.{turned, full-size, size-full, full-largest, full-turned, largest-size, rank-one}
-use Rattle.pairing.proofs.Certificate.{Certificate, each}
+use Rattle.pairing.specs.Left.{Certificate}
+use Rattle.pairing.proofs.Certificate.{each}
 use Rattle.pairing.proofs.Turn.{rank-turned, unfixed-turned}
 
 pub full-rank : {m n : ℕ} {edge M : Rel} → Full m n edge M → Rank m n edge m

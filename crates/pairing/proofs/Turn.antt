@@ -5,7 +5,8 @@ use mathlib.Core.Logic.{_↔_}
 use Prim.Native.Nat.{ℕ, _<_}
 use Rattle.pairing.specs.Pairing.{Rel, turn, Rank, Surplus, Unfixed}
 use Rattle.pairing.proofs.Sizes.{size-turned, largest-turned}
-use Rattle.pairing.proofs.Certificate.{Certificate, left-over}
+use Rattle.pairing.specs.Left.{Certificate}
+use Rattle.pairing.proofs.Certificate.{left-over}
 
 pub rank-turned : {m n k : ℕ} {edge : Rel} → Rank m n edge k → Rank n m (turn edge) k
 rank-turned r = record { pairs = turn (r .pairs); largest = largest-turned (r .largest); counts = size-turned (r .largest .ok) ∙ r .counts }

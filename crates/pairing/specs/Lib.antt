@@ -4,3 +4,4 @@ pub mod First
 pub mod Holders
 pub mod Looking
 pub mod Members
+pub mod Left
