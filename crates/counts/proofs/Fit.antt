@@ -1,32 +1,22 @@
 -- What being fit, and being the least fit choice, says: each unknown is met by a pair, so its top is the largest order + c over its occurrences,
 -- two least choices are equal, and the tops' sum is at least the counts' sum and at most that and the largest order for each equation.
-use mathlib.Core.Path.{_≡_, refl, sym, _∙_, ap}
-use mathlib.Core.Bool.{Bool, true, false}
+use mathlib.Core.Path.{_≡_, refl}
+use mathlib.Core.Bool.{true}
 use mathlib.Core.Logic.{inr}
-use Prim.Native.Nat.{ℕ, zero, suc, _+_, _-_, _*_, _<_, _≤_}
+use Prim.Native.Nat.{ℕ, _+_, _*_, _<_, _≤_}
 use native.Mathlib.Omega.{arith}
-use Rattle.laws.specs.Count.{sum, count}
-use Rattle.laws.proofs.Tests.{either, given, clash}
-use Rattle.laws.proofs.Search.{seek}
+use Rattle.laws.specs.Count.{sum}
+use Rattle.laws.proofs.Tests.{given}
 use Rattle.laws.proofs.Sum.{sum-add, sum-bound}
-use Rattle.laws.proofs.Inject.{inject, count-misses}
-use Rattle.pairing.specs.Pairing.{Rel, Pairing, Full}
-use Rattle.counts.specs.Fit.{Fits, Least, largest, high, freedomOf}
+use Rattle.laws.proofs.Inject.{inject}
+use Rattle.pairing.specs.Pairing.{Rel, Full}
+use Rattle.pairing.proofs.Sizes.{full-turned}
+use Rattle.counts.specs.Fit.{Fits, Least, high, freedomOf}
 use Rattle.counts.proofs.High.{high-over, high-most}
-
-pub count-all : (n : ℕ) → count n (λ i. true) ≡ n
-count-all zero = refl
-count-all (suc n) = let r = count-all n in omega arith
 
 -- where there are as many unknowns as equations, a pairing of all equations meets every unknown
 pub met : (n : ℕ) (edge M : Rel) → Full n n edge M → (u : ℕ) → u < n → (e : ℕ) × (M e u ≡ true)
-met n edge M full u h =
-    either (seek n (λ e. M e u)) (λ (e, b, t, l). (e, t))
-    (λ none.
-    let z = count-misses n n (λ i. true) (λ i. true) (λ e v. M e v ≡ true) (λ e f v. full .ok .oneE e f v)
-            (λ e b t. given (full .every e b) (λ (v, p). (v, full .ok .col e v p, p, refl)))
-            u h refl (λ e b t p. clash p (none e b)) in
-    absurd (omega (arith, count-all n)))
+met n edge M full = full-turned refl full .every
 
 module _ (m n : ℕ) (edge : Rel) (ord : ℕ → ℕ → ℕ) (c : ℕ → ℕ) where
   -- a pairing of all equations shows that the largest order + c, summed, is at least the counts' sum
@@ -87,8 +77,8 @@ pub freedom-high : (n k : ℕ) (edge : Rel) (ord : ℕ → ℕ → ℕ) (c d : �
 freedom-high n k edge ord c d fit orders =
     let ok = fit .full .ok in
     let a = inject n n d (λ e. k + c e) (λ u e. fit .pairs e u ≡ true) (λ u v e. ok .oneU e u v)
-            (λ u b. given (met n edge (fit .pairs) (fit .full) u b)
-            (λ (e, p). let t = fit .tight e u p in let o = orders e u (ok .row e u p) b in inr (e, ok .row e u p, p, omega arith))) in
+    (λ u b. given (met n edge (fit .pairs) (fit .full) u b)
+    (λ (e, p). let t = fit .tight e u p in let o = orders e u (ok .row e u p) b in inr (e, ok .row e u p, p, omega arith))) in
     let s = sum-add n (λ e. k) c in
     let b = sum-bound n k (λ e. k) (λ e h. omega arith) in
     omega arith

@@ -1,21 +1,19 @@
 -- How large a least count can be. If no count lay in the k places below t, all counts from t on could be lowered by 1 (and the tops of their unknowns with them),
 -- and the choice would still be fit. So below each count stands another at most k lower, and a count is at most k for each count below it.
-use mathlib.Core.Path.{_≡_, refl, sym, _∙_, ap}
-use mathlib.Core.Bool.{Bool, true, false, not, _&&_}
-use mathlib.Core.Logic.{_⊎_, inl, inr}
+use mathlib.Core.Path.{_≡_, refl}
+use mathlib.Core.Bool.{Bool, true, false, _&&_}
 use Prim.Native.Nat.{ℕ, zero, suc, _+_, _-_, _*_, _<_, _≤_}
 use native.Mathlib.Nat.{mul-le-mul-right, suc-mul}
 use native.Mathlib.Omega.{arith}
 use lib.Dec.{leb, ltb, eqb}
-use Rattle.laws.specs.Count.{bit, sum, count, any}
+use Rattle.laws.specs.Count.{bit, count, any}
 use Rattle.laws.proofs.Tests.{test, either, given, clash, tests, and-left, and-right, and-both}
-use Rattle.laws.proofs.Search.{seek, any-here, any-where, any-none}
-use Rattle.laws.proofs.Sum.{bit-true, bit-false}
-use Rattle.laws.proofs.Inject.{count-misses}
-use Rattle.pairing.specs.Pairing.{Rel, Pairing, Full}
-use Rattle.counts.specs.Fit.{Fits, Least, largest, indexOf}
+use Rattle.laws.proofs.Search.{seek, any-here, any-where}
+use Rattle.pairing.specs.Pairing.{Rel}
+use Rattle.pairing.proofs.Sizes.{count-less, all-count}
+use Rattle.counts.specs.Fit.{Fits, Least, indexOf}
 use Rattle.counts.proofs.High.{largest-most}
-use Rattle.counts.proofs.Fit.{met, count-all}
+use Rattle.counts.proofs.Fit.{met}
 
 -- counts from t on lowered by 1, and the tops of the unknowns paired with those
 abbrev lowered : ℕ → (ℕ → ℕ) → ℕ → ℕ
@@ -34,8 +32,7 @@ below m c t = count m (λ e. ltb (c e) t)
 -- a count that is below t and not below s
 more-below : (m : ℕ) (c : ℕ → ℕ) (s t e : ℕ) → e < m → s ≤ t → s ≤ c e → c e < t → below m c s < below m c t
 more-below m c s t e b l low high =
-    count-misses m m (λ i. ltb (c i) s) (λ i. ltb (c i) t) (λ i j. i ≡ j) (λ i i′ j p q. p ∙ sym q)
-    (λ i h p. (i, h, refl, omega (arith, tests))) e b (omega (arith, tests)) (λ i h p q. let z : c i ≡ c e = ap c q in omega (arith, tests))
+    count-less m (λ i. ltb (c i) s) (λ i. ltb (c i) t) (λ i h p. omega (arith, tests)) e b (omega (arith, tests)) (omega (arith, tests))
 
 module _ (m n k : ℕ) (edge : Rel) (ord : ℕ → ℕ → ℕ) (orders : (e u : ℕ) → e < m → u < n → ord e u ≤ k) (c d : ℕ → ℕ) where
   -- nothing in the k places below t: lowering is fit
@@ -98,9 +95,9 @@ module _ (m n k : ℕ) (edge : Rel) (ord : ℕ → ℕ → ℕ) (orders : (e u :
     pub count-bound : (e : ℕ) → e < m → c e ≤ (m - 1) * k
     count-bound e b =
         let s = stairs (c e) (c e) e (omega arith) b (omega arith) in
-        let i = count-misses m m (λ i. ltb (c i) (c e)) (λ i. true) (λ i j. i ≡ j) (λ i i′ j p q. p ∙ sym q) (λ i h p. (i, h, refl, refl)) e b refl
-                (λ i h p q. let z : c i ≡ c e = ap c q in omega (arith, tests)) in
-        let x : below m c (c e) * k ≤ (m - 1) * k = mul-le-mul-right k (omega (arith, count-all m)) in
+        let i = count-less m (λ i. ltb (c i) (c e)) (λ i. true) (λ i h p. refl) e b refl (omega (arith, tests)) in
+        let all = all-count m (λ i. true) (λ i h. refl) in
+        let x : below m c (c e) * k ≤ (m - 1) * k = mul-le-mul-right k (omega arith) in
         omega arith
 
     pub index-bound : indexOf m c ≤ (m - 1) * k

@@ -1,29 +1,30 @@
 -- How the search over the table of leading occurrences serves the raising: the table says what the definition says, a search that found nothing is stuck in the sense of
--- proofs/Raise, and what is kept while the counts are raised holds at the start, after a raise, after a search that found, and gives the answer at the end.
+-- proofs/Raising, and what is kept while the counts are raised holds at the start, after a raise, after a search that found, and gives the answer at the end.
 use mathlib.Core.Path.{_≡_, refl, sym, _∙_, ap, fun-ext}
 use mathlib.Core.Bool.{Bool, true, false, not, _&&_}
-use mathlib.Core.List.{List, [], _∷_}
-use mathlib.Core.Logic.{_⊎_, inl, inr}
-use Prim.Native.Nat.{ℕ, zero, suc, _+_, _-_, _*_, _<_, _≤_}
+use mathlib.Core.List.{List, []}
+use Prim.Native.Nat.{ℕ, zero, suc, _+_, _-_, _<_, _≤_}
 use native.Mathlib.Omega.{arith}
-use lib.Dec.{leb, ltb, eqb}
-use lib.ListN.{length, getD, replicate}
-use borrow.Author.Tests.{lt-ltb, le-ltb, ltb-true, ltb-false, eqb-true, eqb-false, eq-eqb}
+use lib.Dec.{ltb, eqb}
+use lib.ListN.{getD, replicate}
+use borrow.Author.Tests.{lt-ltb, le-ltb, ltb-true, ltb-false, eqb-true}
 use Rattle.laws.specs.Count.{bit, sum}
 use Rattle.laws.specs.Marks.{marked}
 use Rattle.laws.specs.Tab.{tab, pick}
-use Rattle.laws.proofs.Tests.{test, either, given, clash, tests, not-true, and-left, and-right, and-both}
-use Rattle.laws.proofs.Sum.{bit-true, bit-false, sum-bound, sum-same}
+use Rattle.laws.proofs.Tests.{test, either, given, clash, tests, not-true, and-left, and-right}
+use Rattle.laws.proofs.Sum.{bit-false}
 use Rattle.laws.proofs.Tab.{getD-tab, getD-past}
-use Rattle.table.specs.Model.{limit, topCode, codeAt, occursAt, orderAt, square}
+use Rattle.table.specs.Model.{limit, codeAt, occursAt, orderAt, square}
 use Rattle.table.specs.declared.number.Equation.{Equation}
 use Rattle.table.proofs.Model.{square-at}
-use Rattle.pairing.specs.Pairing.{Rel, Pairing, Full, LeftOver}
-use Rattle.pairing.specs.Holders.{holder, held, Holds, Reach, start, step, Found, Nothing, Asking, Searched}
-use Rattle.counts.specs.Fit.{Fits, Least, high, leading}
-use Rattle.counts.specs.Work.{numberAt, topOrder, highAt, topsOf, leadingAt, leadingRows, Small, Ready, Placed, PlacedIn, raisedBy, Answer}
-use Rattle.counts.proofs.High.{high-over, high-most}
-use Rattle.counts.proofs.Raise.{Stuck, raised, reach-within}
+use Rattle.pairing.specs.Pairing.{Rel}
+use Rattle.pairing.specs.Holders.{holder, held, Reach, Found, Nothing, Asking}
+use Rattle.pairing.proofs.Hall.{reach-within}
+use Rattle.counts.specs.Fit.{leading}
+use Rattle.counts.specs.Work.{numberAt, topOrder, highAt, topsOf, leadingAt, leadingRows, Small, Ready, Chosen}
+use Rattle.counts.specs.Placing.{PlacedIn, raisedBy}
+use Rattle.counts.proofs.Over.{over-pairs, over-reach}
+use Rattle.counts.proofs.Raising.{Stuck, raised}
 use Rattle.counts.proofs.Placed.{begin, count-few, raise, nearer, least, paired}
 
 -- a list of one value
@@ -73,10 +74,6 @@ tops-beyond n t counts u h = test (ltb u limit)
     (λ k. getD-tab limit (λ u. pick (ltb u n) (highAt n t counts u) 0) u 0 (ltb-true u limit k) ∙ rw (le-ltb u n h))
     (λ k. getD-past limit (λ u. pick (ltb u n) (highAt n t counts u) 0) u 0 (omega (arith, tests)))
 
-reach-map : {A B M : Rel} {f e : ℕ} → ((a u : ℕ) → A a u ≡ true → B a u ≡ true) → Reach A M f e → Reach B M f e
-reach-map to start = start
-reach-map to (step {a} u r l p) = step u (reach-map to r) (to a u l) p
-
 -- the leading occurrences of the counts with their tops, in the table and by the definition
 abbrev rowsOf : ℕ → List (List ℕ) → List ℕ → Rel
 rowsOf n t counts = occursAt (leadingRows n t counts (topsOf n t counts))
@@ -91,57 +88,47 @@ module _ (n : ℕ) (t : List (List ℕ)) (counts : List ℕ) (small : n ≤ limi
   to-lead : (e u : ℕ) → rowsOf n t counts e u ≡ true → leadOf n t counts e u ≡ true
   to-lead e u o = given (rows-within n t counts (topsOf n t counts) small e u o) (λ (h, k). sym (same e u h k) ∙ o)
 
-  pub asking : (f : ℕ) (holders : List Equation) → f < n → PlacedIn n t f counts holders → Asking n n (rowsOf n t counts) f (replicate limit false) holders
-  asking f holders b p = record {
-        equations = small;
-        unknowns = small;
-        asker = b;
-        fresh = getD-same limit f false;
-        free = p .waiting f (omega arith);
-        ok = record {
-              row = p .pairs .row;
-              col = p .pairs .col;
-              fits = λ e u m. same e u (p .pairs .row e u m) (p .pairs .col e u m) ∙ p .pairs .fits e u m;
-              oneU = p .pairs .oneU;
-              oneE = p .pairs .oneE
-            }
-      }
+  -- the search may be asked, and speaks of the n equations
+  pub asking : (m f : ℕ) (holders : List Equation) → n ≤ m → m ≤ limit → f < n → PlacedIn n t f counts holders
+      → Asking m n (rowsOf n t counts) f (replicate limit false) holders
+  asking m f holders more most b p = record {
+    equations = most;
+    unknowns = small;
+    asker = omega arith;
+    fresh = getD-same limit f false;
+    free = p .waiting f (omega arith);
+    ok = over-pairs more (p .pairs) (λ e u k. same e u (p .pairs .row e u k) (p .pairs .col e u k) ∙ p .pairs .fits e u k);
+  }
 
   -- a search that found nothing
   pub stuck : (f : ℕ) (holders : List Equation) (asked : List Bool) → f < n → PlacedIn n t f counts holders
       → Nothing n (rowsOf n t counts) f (replicate limit false) asked holders → Stuck n n (leadOf n t counts) (held holders) f (marked asked)
   stuck f holders asked b p none = record {
-        asker = b;
-        free = p .waiting f (omega arith);
-        self = none .self;
-        reached = reached;
-        closed = λ e u m h l. none .closed e u m (λ before. clash before (getD-same limit e false)) h
-          (same e u (reach-within (p .pairs) b (reached e m)) h ∙ l)
-      }
+    asker = b;
+    free = p .waiting f (omega arith);
+    self = none .self;
+    reached = reached;
+    closed = λ e u m h l. none .closed e u m (λ before. clash before (getD-same limit e false)) h
+        (same e u (reach-within (p .pairs) b (reached e m)) h ∙ l);
+  }
     where
       reached : (e : ℕ) → marked asked e ≡ true → Reach (leadOf n t counts) (held holders) f e
-      reached e m = either (none .reached e m) (λ before. clash before (getD-same limit e false)) (λ r. reach-map to-lead r)
+      reached e m = either (none .reached e m) (λ before. clash before (getD-same limit e false)) (λ r. over-reach to-lead r)
 
   -- a search that found
   pub found : (f : ℕ) (holders holders′ : List Equation) → PlacedIn n t f counts holders
       → Found n n (rowsOf n t counts) f (replicate limit false) holders holders′ → PlacedIn n t (f + 1) counts holders′
   found f holders holders′ p got = record {
-        pairs = record {
-              row = got .ok .row;
-              col = got .ok .col;
-              fits = λ e u m. to-lead e u (got .ok .fits e u m);
-              oneU = got .ok .oneU;
-              oneE = got .ok .oneE
-            };
-        placed = λ e h. test (eqb e f) (λ t. rw (eqb-true e f t) (got .gained)) (λ t. got .kept e (p .placed e (omega (arith, tests))));
-        waiting = λ e h u m. either (got .none-else e (u, m)) (λ z. absurd (omega arith)) (λ (v, k). p .waiting e (omega arith) v k);
-        low = p .low;
-        room = p .room;
-        beyond = p .beyond
-      }
+    pairs = over-pairs (omega arith) (got .ok) (λ e u m. to-lead e u (got .ok .fits e u m));
+    placed = λ e h. test (eqb e f) (λ t. rw (eqb-true e f t) (got .gained)) (λ t. got .kept e (p .placed e (omega (arith, tests))));
+    waiting = λ e h u m. either (got .none-else e (u, m)) (λ z. absurd (omega arith)) (λ (v, k). p .waiting e (omega arith) v k);
+    low = p .low;
+    room = p .room;
+    beyond = p .beyond;
+  }
 
 module _ (n : ℕ) (t : List (List ℕ)) (ready : Ready n t) where
-  orders : (e u : ℕ) → e < n → u < n → orderAt t e u ≤ topOrder
+  pub orders : (e u : ℕ) → e < n → u < n → orderAt t e u ≤ topOrder
   orders e u h k = let c = ready .codes e u h k in omega arith
 
   -- before the first search
@@ -155,11 +142,11 @@ module _ (n : ℕ) (t : List (List ℕ)) (ready : Ready n t) where
   -- order + count fits a byte all the way
   pub small-in : (f : ℕ) (counts : List ℕ) (holders : List Equation) → PlacedIn n t f counts holders → Small n t counts
   small-in f counts holders p = record {
-        within = ready .within;
-        codes = ready .codes;
-        few = λ e h. let k = count-few n (occursAt t) (orderAt t) (ready .pairs) (ready .full) f (numberAt counts) (held holders) p e h in
-          let w = ready .within in omega arith
-      }
+    within = ready .within;
+    codes = ready .codes;
+    few = λ e h. let k = count-few n (occursAt t) (orderAt t) (ready .pairs) (ready .full) f (numberAt counts) (held holders) p e h in
+        let w = ready .within in omega arith;
+  }
 
   -- one raise of the list
   module _ (f : ℕ) (counts : List ℕ) (holders : List Equation) (asked : List Bool) (b : f < n) (p : PlacedIn n t f counts holders)
@@ -177,8 +164,8 @@ module _ (n : ℕ) (t : List (List ℕ)) (ready : Ready n t) where
             let z = p .beyond e k in
             let o = bit-false out in
             let l = test (ltb e limit)
-                    (λ w. getD-tab limit (λ e. pick (ltb e n) (numberAt counts e + bit (marked asked e)) 0) e 0 (ltb-true e limit w) ∙ rw h)
-                    (λ w. getD-past limit (λ e. pick (ltb e n) (numberAt counts e + bit (marked asked e)) 0) e 0 (ltb-false e limit w)) in
+            (λ w. getD-tab limit (λ e. pick (ltb e n) (numberAt counts e + bit (marked asked e)) 0) e 0 (ltb-true e limit w) ∙ rw h)
+            (λ w. getD-past limit (λ e. pick (ltb e n) (numberAt counts e + bit (marked asked e)) 0) e 0 (ltb-false e limit w)) in
             omega arith)
 
     pub raise-in : PlacedIn n t f (raisedBy n counts asked) holders
@@ -190,12 +177,12 @@ module _ (n : ℕ) (t : List (List ℕ)) (ready : Ready n t) where
         (stuck n t counts (ready .within) f holders asked b p none))
 
   -- after the last search
-  pub answer : (counts : List ℕ) (holders : List Equation) → PlacedIn n t n counts holders → Answer n t counts (topsOf n t counts) holders
+  pub answer : (counts : List ℕ) (holders : List Equation) → PlacedIn n t n counts holders → Chosen n t counts (topsOf n t counts) holders
   answer counts holders p =
       let tops = tops-at n t counts (ready .within) in
       record {
         least = least n (occursAt t) (orderAt t) (numberAt counts) (numberAt (topsOf n t counts)) (held holders) p tops;
         paired = paired n (occursAt t) (orderAt t) (numberAt counts) (numberAt (topsOf n t counts)) (held holders) p tops;
         countsBeyond = p .beyond;
-        topsBeyond = tops-beyond n t counts
+        topsBeyond = tops-beyond n t counts;
       }

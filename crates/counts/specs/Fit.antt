@@ -2,7 +2,7 @@
 -- Equations and unknowns are spoken of by their places, counted from 0. m is the number of equations, n that of unknowns;
 -- `edge e u` says that unknown u occurs in equation e, and `ord e u` at which order. c gives each equation its count, d each unknown its top.
 use mathlib.Core.Path.{_≡_}
-use mathlib.Core.Bool.{Bool, true, _&&_}
+use mathlib.Core.Bool.{true, _&&_}
 use Prim.Native.Nat.{ℕ, zero, suc, _+_, _-_, _<_, _≤_, max}
 use lib.Dec.{eqb}
 use Rattle.laws.specs.Count.{sum}

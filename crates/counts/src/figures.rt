@@ -1,6 +1,6 @@
 // Two figures of the answer: index and freedom.
-use table::LIMIT;
 use crate::tops::larger;
+use table::LIMIT;
 ghost use mathlib.Core.Path.{_≡_};
 ghost use Prim.Native.Nat.{_-_, _≤_};
 ghost use Rattle.laws.specs.Count.{sum};

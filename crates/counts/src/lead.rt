@@ -9,7 +9,7 @@ ghost use Prim.Native.Nat.{_+_, _-_, _*_, _≤_};
 ghost use lib.Dec.{eqb, ltb};
 ghost use Rattle.laws.specs.Count.{bit};
 ghost use Rattle.laws.specs.Tab.{tab};
-ghost use Rattle.table.specs.Model.{limit, topCode, Numbered};
+ghost use Rattle.table.specs.Model.{limit, topCode};
 ghost use Rattle.counts.specs.Work.{topOrder, Small, leadingAt, leadingRows};
 
 // An occurrence is leading when its top is order + count; where the unknown does not occur nothing is.
@@ -25,7 +25,13 @@ fn leads(code: u8, count: u8, top: u8) -> u8
 }
 
 // The row of one equation.
-fn lead_row(table: &[[u8; LIMIT]; LIMIT], n: usize, e: Equation, counts: &[u8; LIMIT], tops: &[u8; LIMIT]) -> [u8; LIMIT]
+fn lead_row(
+    table: &[[u8; LIMIT]; LIMIT],
+    n: usize,
+    e: Equation,
+    counts: &[u8; LIMIT],
+    tops: &[u8; LIMIT],
+) -> [u8; LIMIT]
     requires { ⌜ Small n (now table) (now counts) × (1 ≤ e .0) × (e .0 ≤ n) ⌝ }
     ensures { λ r. ⌜ r ≡ tab limit (λ u. bit (ltb u n && leadingAt (now (table .entry)) (now (counts .entry)) (now (tops .entry)) (e .0 - 1) u)) ⌝ }
 {
@@ -41,7 +47,12 @@ fn lead_row(table: &[[u8; LIMIT]; LIMIT], n: usize, e: Equation, counts: &[u8; L
 }
 
 // The table of leading occurrences, for the crates that look at those alone.
-pub fn leading_rows(table: &[[u8; LIMIT]; LIMIT], n: usize, counts: &[u8; LIMIT], tops: &[u8; LIMIT]) -> [[u8; LIMIT]; LIMIT]
+pub fn leading_rows(
+    table: &[[u8; LIMIT]; LIMIT],
+    n: usize,
+    counts: &[u8; LIMIT],
+    tops: &[u8; LIMIT],
+) -> [[u8; LIMIT]; LIMIT]
     requires { ⌜ Small n (now table) (now counts) ⌝ }
     ensures { λ r. ⌜ r ≡ leadingRows n (now (table .entry)) (now (counts .entry)) (now (tops .entry)) ⌝ }
 {

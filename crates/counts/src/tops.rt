@@ -8,7 +8,7 @@ ghost use mathlib.Core.Bool.{not};
 ghost use Prim.Native.Nat.{_+_, _-_, _*_, _≤_, max};
 ghost use lib.Dec.{eqb};
 ghost use Rattle.laws.specs.Tab.{pick};
-ghost use Rattle.table.specs.Model.{limit, topCode, Numbered};
+ghost use Rattle.table.specs.Model.{limit, topCode};
 ghost use Rattle.counts.specs.Work.{topOrder, Small, highAt, topsOf};
 
 // The larger of two numbers.

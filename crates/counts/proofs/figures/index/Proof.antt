@@ -1,16 +1,13 @@
 -- `figures::index` keeps the largest of the counts that it has passed.
-use Prim.Native.Nat.{ℕ, suc, _+_, _-_, _≤_, max}
+use Prim.Native.Nat.{_-_, _≤_}
 use native.Mathlib.Numerals.{add-one}
 use Rattle.counts.specs.Fit.{largest}
 use Rattle.counts.specs.Work.{numberAt}
-use mathlib.Core.Path.{_≡_, refl, sym, _∙_, ap}
+use mathlib.Core.Path.{_≡_}
 use native.Mathlib.Omega.{arith}
 use borrow.Author.Needs.{needs}
 use Rattle.counts.proofs.figures.index.Statement.{statement}
 use Rattle.counts.proofs.figures.index.Tie as tie
-use Rattle.counts.proofs.figures.index.Reads as reads
-use Rattle.counts.proofs.figures.index.Lts as lts
-use Rattle.counts.proofs.tops.larger.Reads as larger-reads
 
 abbrev Inv-loop : tie.InvT-loop
 Inv-loop n counts most₀ e₀ most e = (e ≤ n) × (most ≡ largest e (numberAt counts))

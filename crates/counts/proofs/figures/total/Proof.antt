@@ -1,16 +1,13 @@
 -- `figures::total` keeps the sum of the numbers that it has passed, at most 255 for each.
-use Prim.Native.Nat.{ℕ, suc, _+_, _-_, _*_, _≤_}
+use Prim.Native.Nat.{_-_, _*_, _≤_}
 use native.Mathlib.Numerals.{add-one}
 use Rattle.laws.specs.Count.{sum}
 use Rattle.counts.specs.Work.{numberAt}
-use mathlib.Core.Path.{_≡_, refl, sym, _∙_, ap}
+use mathlib.Core.Path.{_≡_}
 use native.Mathlib.Omega.{arith}
 use borrow.Author.Needs.{needs}
 use Rattle.counts.proofs.figures.total.Statement.{statement}
 use Rattle.counts.proofs.figures.total.Tie as tie
-use Rattle.counts.proofs.figures.total.Reads as reads
-use Rattle.counts.proofs.figures.total.Lts as lts
-use Rattle.counts.proofs.figures.wide.Reads as wide-reads
 
 abbrev Inv-loop : tie.InvT-loop
 Inv-loop n numbers all₀ i₀ all i = (i ≤ n) × (all ≡ sum i (numberAt numbers)) × (all ≤ 255 * i)

@@ -3,23 +3,17 @@ use Rattle.laws.proofs.Tests.{test}
 use Rattle.laws.proofs.Tab.{tab-ext}
 -- `lead::lead_row` fills one place after another; beyond the last unknown the zeros of the start stay.
 use mathlib.Core.List.{List}
-use Prim.Native.Nat.{ℕ, suc, _+_, _-_, _≤_}
+use Prim.Native.Nat.{ℕ, _-_, _≤_}
 use Rattle.laws.specs.Count.{bit}
 use Rattle.laws.specs.Tab.{tab, upto}
 use Rattle.laws.proofs.Tab.{fill-start, fill-step, replicate-tab}
 use Rattle.table.specs.Model.{limit}
 use Rattle.counts.specs.Work.{leadingAt}
-use mathlib.Core.Path.{_≡_, refl, sym, _∙_, ap}
+use mathlib.Core.Path.{_≡_, _∙_}
 use native.Mathlib.Omega.{arith}
 use borrow.Author.Needs.{needs}
 use Rattle.counts.proofs.lead.lead_row.Statement.{statement}
 use Rattle.counts.proofs.lead.lead_row.Tie as tie
-use Rattle.counts.proofs.lead.lead_row.Reads as reads
-use Rattle.counts.proofs.lead.lead_row.Lts as lts
-use Rattle.counts.proofs.lead.leads.Reads as leads-reads
-use Rattle.table.proofs.number.Equation.place.Reads as place-reads
-use Rattle.table.proofs.number.Unknown.at.Reads as at-reads
-use Rattle.table.proofs.rows.code.Reads as code-reads
 
 abbrev codes : List (List ℕ) → List ℕ → List ℕ → ℕ → ℕ → ℕ
 codes table counts tops e u = bit (leadingAt table counts tops e u)

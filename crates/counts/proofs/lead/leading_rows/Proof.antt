@@ -10,15 +10,11 @@ use Rattle.laws.proofs.Tests.{test}
 use Rattle.laws.proofs.Tab.{fill-start, fill-step, replicate-tab, tab-ext}
 use Rattle.table.specs.Model.{limit}
 use Rattle.counts.specs.Work.{leadingAt, leadingRows}
-use mathlib.Core.Path.{_≡_, refl, sym, _∙_, ap}
+use mathlib.Core.Path.{_≡_, _∙_}
 use native.Mathlib.Omega.{arith}
 use borrow.Author.Needs.{needs}
 use Rattle.counts.proofs.lead.leading_rows.Statement.{statement}
 use Rattle.counts.proofs.lead.leading_rows.Tie as tie
-use Rattle.counts.proofs.lead.leading_rows.Reads as reads
-use Rattle.counts.proofs.lead.leading_rows.Lts as lts
-use Rattle.counts.proofs.lead.lead_row.Reads as lead-row-reads
-use Rattle.table.proofs.number.Equation.at.Reads as at-reads
 
 abbrev rowAt : ℕ → List (List ℕ) → List ℕ → List ℕ → ℕ → List ℕ
 rowAt n table counts tops e = tab limit (λ u. bit (ltb u n && leadingAt table counts tops e u))

@@ -1,12 +1,8 @@
 -- `lead::leads` is the definition's test, its two halves in turn.
 use borrow.Author.Tests.{eq-eqb, ne-eqb}
-use mathlib.Core.Path.{_≡_, refl, sym, _∙_, ap}
-use native.Mathlib.Omega.{arith}
 use borrow.Author.Needs.{needs}
 use Rattle.counts.proofs.lead.leads.Statement.{statement}
 use Rattle.counts.proofs.lead.leads.Tie as tie
-use Rattle.counts.proofs.lead.leads.Reads as reads
-use Rattle.counts.proofs.lead.leads.Lts as lts
 
 returns : tie.Need-returns
 returns c = rw (eq-eqb _ _ (c .if1 .taken))

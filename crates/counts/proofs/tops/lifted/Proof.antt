@@ -1,12 +1,8 @@
 -- `tops::lifted` is the definition's pick, by the test of the code.
 use borrow.Author.Tests.{eq-eqb, ne-eqb}
-use mathlib.Core.Path.{_≡_, refl, sym, _∙_, ap}
-use native.Mathlib.Omega.{arith}
 use borrow.Author.Needs.{needs}
 use Rattle.counts.proofs.tops.lifted.Statement.{statement}
 use Rattle.counts.proofs.tops.lifted.Tie as tie
-use Rattle.counts.proofs.tops.lifted.Reads as reads
-use Rattle.counts.proofs.tops.lifted.Lts as lts
 
 sub-result : tie.Need-sub-result
 sub-result c = search needs

@@ -1,18 +1,12 @@
 -- `tops::top` keeps the largest order + count over the equations that it has passed.
-use Prim.Native.Nat.{ℕ, suc, _+_, _-_, _≤_, max}
+use Prim.Native.Nat.{_-_, _≤_}
 use native.Mathlib.Numerals.{add-one}
 use Rattle.counts.specs.Work.{highAt}
-use mathlib.Core.Path.{_≡_, refl, sym, _∙_, ap}
+use mathlib.Core.Path.{_≡_}
 use native.Mathlib.Omega.{arith}
 use borrow.Author.Needs.{needs}
 use Rattle.counts.proofs.tops.top.Statement.{statement}
 use Rattle.counts.proofs.tops.top.Tie as tie
-use Rattle.counts.proofs.tops.top.Reads as reads
-use Rattle.counts.proofs.tops.top.Lts as lts
-use Rattle.counts.proofs.tops.larger.Reads as larger-reads
-use Rattle.counts.proofs.tops.lifted.Reads as lifted-reads
-use Rattle.table.proofs.number.Equation.at.Reads as at-reads
-use Rattle.table.proofs.rows.code.Reads as code-reads
 
 abbrev Inv-loop : tie.InvT-loop
 Inv-loop table n u counts most₀ e₀ most e = (e ≤ n) × (most ≡ highAt e table counts (u .0 - 1))

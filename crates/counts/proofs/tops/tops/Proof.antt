@@ -4,15 +4,11 @@ use Rattle.laws.specs.Tab.{tab, upto}
 use Rattle.laws.proofs.Tab.{fill-start, fill-step, replicate-tab}
 use Rattle.table.specs.Model.{limit}
 use Rattle.counts.specs.Work.{highAt}
-use mathlib.Core.Path.{_≡_, refl, sym, _∙_, ap}
+use mathlib.Core.Path.{_≡_, _∙_}
 use native.Mathlib.Omega.{arith}
 use borrow.Author.Needs.{needs}
 use Rattle.counts.proofs.tops.tops.Statement.{statement}
 use Rattle.counts.proofs.tops.tops.Tie as tie
-use Rattle.counts.proofs.tops.tops.Reads as reads
-use Rattle.counts.proofs.tops.tops.Lts as lts
-use Rattle.counts.proofs.tops.top.Reads as top-reads
-use Rattle.table.proofs.number.Unknown.at.Reads as at-reads
 
 abbrev nothing : ℕ → ℕ
 nothing u = 0

@@ -1,22 +1,22 @@
 -- One raise: the asked equations of a search that found nothing get 1 more, and the tops follow. The pairs stay leading, no count passes that of a fit choice,
 -- and the tops' sum comes at least 1 nearer to the counts' sum. Over any relation, any orders, any numbers of equations and unknowns.
-use mathlib.Core.Path.{_≡_, refl, sym, _∙_, ap}
-use mathlib.Core.Bool.{Bool, true, false, not, _&&_}
-use mathlib.Core.Logic.{_⊎_, inl, inr}
-use Prim.Native.Nat.{ℕ, zero, suc, _+_, _-_, _*_, _<_, _≤_}
+use mathlib.Core.Path.{_≡_}
+use mathlib.Core.Bool.{Bool, true, false, _&&_}
+use Prim.Native.Nat.{ℕ, _+_, _<_, _≤_}
 use native.Mathlib.Omega.{arith}
-use lib.Dec.{leb, ltb, eqb}
+use lib.Dec.{eqb}
 use borrow.Author.Tests.{eqb-true, eqb-false, eq-eqb}
-use Rattle.laws.specs.Count.{bit, sum, count, any}
-use Rattle.laws.proofs.Tests.{test, either, given, clash, tests, not-true, and-left, and-right, and-both}
-use Rattle.laws.proofs.Search.{seek, any-here, any-where, any-none}
+use Rattle.laws.specs.Count.{bit, sum, any}
+use Rattle.laws.proofs.Tests.{test, given, clash, tests, not-true, and-left, and-right, and-both}
+use Rattle.laws.proofs.Search.{any-here, any-where}
 use Rattle.laws.proofs.Sum.{bit-true, bit-false, sum-add, sum-mono}
 use Rattle.laws.proofs.Inject.{count-misses, onto}
-use Rattle.pairing.specs.Pairing.{Rel, Pairing, Full, LeftOver}
+use Rattle.pairing.specs.Pairing.{Rel, Pairing, LeftOver}
 use Rattle.pairing.specs.Holders.{Reach, start, step}
-use Rattle.counts.specs.Fit.{Fits, Least, largest, high, leading}
+use Rattle.pairing.proofs.Hall.{reach-within}
+use Rattle.counts.specs.Fit.{Fits, high, leading}
+use Rattle.counts.proofs.Over.{over-pairs}
 use Rattle.counts.proofs.High.{high-over, high-most}
-use Rattle.counts.proofs.Fit.{high-top}
 
 -- a search from f over the leading occurrences found nothing: who was asked
 pub record Stuck (m n : ℕ) (lead M : Rel) (f : ℕ) (C : ℕ → Bool) : Type 0 where
@@ -37,17 +37,12 @@ taken m M C u = any m (λ g. C g && M g u)
 pub bit-most : (b : Bool) → bit b ≤ 1
 bit-most b = test b (λ t. rw t (omega arith)) (λ t. rw t (omega arith))
 
-pub reach-within : {m n : ℕ} {lead M : Rel} {f e : ℕ} → Pairing m n lead M → f < m → Reach lead M f e → e < m
-reach-within ok h start = h
-reach-within {e} ok h (step u r l p) = ok .row e u p
-
 reach-asked : {m n : ℕ} {lead M : Rel} {f e : ℕ} {C : ℕ → Bool} → Pairing m n lead M → Stuck m n lead M f C → Reach lead M f e → C e ≡ true
 reach-asked ok s start = s .self
 reach-asked {e} ok s (step {a} u r l p) = given (s .closed a u (reach-asked ok s r) (ok .col e u p) l) (λ (g, q, h). rw (ok .oneE e g u p h) q)
 
 module _ (m n : ℕ) (edge : Rel) (ord : ℕ → ℕ → ℕ) (c : ℕ → ℕ) (M : Rel) (f : ℕ) (C : ℕ → Bool)
     (ok : Pairing m n (leading edge ord c (high m edge ord c)) M) (s : Stuck m n (leading edge ord c (high m edge ord c)) M f C) where
-
   abbrev lead : Rel
   lead = leading edge ord c (high m edge ord c)
 
@@ -86,7 +81,7 @@ module _ (m n : ℕ) (edge : Rel) (ord : ℕ → ℕ → ℕ) (c : ℕ → ℕ) 
           let k = ok .oneE g e u (and-right (C g) (M g u) q) p in clash (rw k at (and-left (C g) (M g u) q)) a))
 
   pub raise-pairs : Pairing m n (leading edge ord (raised c C) (high m edge ord (raised c C))) M
-  raise-pairs = record { row = ok .row; col = ok .col; fits = pairs-stay; oneU = ok .oneU; oneE = ok .oneE }
+  raise-pairs = over-pairs (omega arith) ok pairs-stay
 
   -- the tops' sum comes nearer to the counts' sum
   pub falls : sum n (high m edge ord (raised c C)) + sum m c < sum n (high m edge ord c) + sum m (raised c C)
@@ -95,9 +90,9 @@ module _ (m n : ℕ) (edge : Rel) (ord : ℕ → ℕ → ℕ) (c : ℕ → ℕ) 
       let b = sum-add n (high m edge ord c) (λ u. bit (taken m M C u)) in
       let d = sum-add m c (λ e. bit (C e)) in
       let k = count-misses n m (taken m M C) C (λ u e. M e u ≡ true) (λ u v e. ok .oneU e u v)
-              (λ u h t. given (any-where {n = m} (λ g. C g && M g u) t) (λ (g, w, q).
-              (g, w, and-right (C g) (M g u) q, and-left (C g) (M g u) q)))
-              f (s .asker) (s .self) (λ u h t p. s .free u p) in
+      (λ u h t. given (any-where {n = m} (λ g. C g && M g u) t) (λ (g, w, q).
+      (g, w, and-right (C g) (M g u) q, and-left (C g) (M g u) q)))
+      f (s .asker) (s .self) (λ u h t p. s .free u p) in
       omega arith
 
   -- every fit choice has more for each that was asked
