@@ -2,12 +2,12 @@
 -- the test implies the row's statement; and the table is one computation.
 use mathlib.Core.Path.{_≡_, refl, sym, ap, _∙_, subst, fun-ext}
 use mathlib.Core.Bool.{Bool, true, false, not, _&&_}
-use mathlib.Core.List.{List, [], _∷_, map}
+use mathlib.Core.List.{List, [], _∷_, _++_, map}
 use Prim.{tt}
 use Prim.Native.Nat.{ℕ, zero, suc, _+_, _-_, _*_, _<_, _≤_}
 use native.Mathlib.Omega.{arith}
 use lib.Dec.{eqb, ltb, leb}
-use lib.ListN.{length, getD}
+use lib.ListN.{length, getD, drop}
 use borrow.Author.Tests.{eqb-true, eq-eqb, ltb-true, le-ltb}
 use Rattle.laws.specs.Tab.{tab, pick}
 use Rattle.laws.specs.Marks.{marked}
@@ -64,11 +64,12 @@ needs-within n lead p = record {
   col = λ f g t. ltb-true g n (and-left (ltb g n) (not (eqb f g) && lead f (p g)) (and-right (ltb f n) (ltb g n && (not (eqb f g) && lead f (p g))) t));
 }
 
-abbrev stripsOf : Row → List ℕ
-stripsOf r = strips (r .strip1) (r .strip2) (r .strip3) (r .strip4) (r .strip5)
+abbrev bytesOf : Row → List ℕ → List ℕ
+bytesOf r before = strips (r .strip1) (r .strip2) (r .strip3) (r .strip4) (r .strip5) ++ drop answerBytes before
 
-solved : (n : ℕ) (edge : Rel) (ord : ℕ → ℕ → ℕ) (rank : ℕ) (r : Row) → every (solvedTests n edge ord rank r) ≡ true → Solved n edge ord rank (r .number) (stripsOf r)
-solved n edge ord rank r t = record {
+solved : (n : ℕ) (edge : Rel) (ord : ℕ → ℕ → ℕ) (rank : ℕ) (r : Row) (behind : List ℕ) → every (solvedTests n edge ord rank r) ≡ true
+    → Solved n edge ord rank behind (r .number) (bytesOf r behind)
+solved n edge ord rank r behind t = record {
   counts = r .strip1;
   tops = r .strip2;
   partner = placesOf (r .strip3);
@@ -94,7 +95,7 @@ solved n edge ord rank r t = record {
     partners : Partners n n (leadIn edge ord r) (numberAt (placesOf (r .strip3)))
     partners = is-partners n (leadIn edge ord r) (numberAt (placesOf (r .strip3))) (at 8)
 
-    numbered : {c d : List ℕ} → r .strip3 ≡ c → r .strip4 ≡ d → stripsOf r ≡ strips (r .strip1) (r .strip2) c d (r .strip5)
+    numbered : {c d : List ℕ} → r .strip3 ≡ c → r .strip4 ≡ d → bytesOf r behind ≡ strips (r .strip1) (r .strip2) c d (r .strip5) ++ drop answerBytes behind
     numbered {c} {d} p q = rw (p, q)
 
 -- the row's strips, read as a singular answer, are one; M a largest pairing
@@ -108,9 +109,9 @@ singularTests E U edge M r =
     ∷ eqb (r .number) (packed 10 0 (size E U M) 0 0 0)
     ∷ []
 
-singular : (E U : ℕ) (edge M : Rel) (r : Row) → Pairing E U edge M → isLargest E U edge M ≡ true → isLargest U E (turn edge) (turn M) ≡ true
-    → every (singularTests E U edge M r) ≡ true → Singular E U edge (size E U M) (r .number) (stripsOf r)
-singular E U edge M r k a b t = record {
+singular : (E U : ℕ) (edge M : Rel) (r : Row) (behind : List ℕ) → Pairing E U edge M → isLargest E U edge M ≡ true → isLargest U E (turn edge) (turn M) ≡ true
+    → every (singularTests E U edge M r) ≡ true → Singular E U edge (size E U M) behind (r .number) (bytesOf r behind)
+singular E U edge M r behind k a b t = record {
   surplus = members E (marked (overs E U edge M));
   unfixed = members U (marked (overs U E (turn edge) (turn M)));
   allSurplus = surplus-are E U edge M k a;
@@ -124,7 +125,7 @@ singular E U edge M r k a b t = record {
     at : (i : ℕ) → getD (singularTests E U edge M r) i true ≡ true
     at = every-at (singularTests E U edge M r) t
 
-    listed : {v w x y z : List ℕ} → r .strip1 ≡ v → r .strip2 ≡ w → r .strip3 ≡ x → r .strip4 ≡ y → r .strip5 ≡ z → stripsOf r ≡ strips v w x y z
+    listed : {v w x y z : List ℕ} → r .strip1 ≡ v → r .strip2 ≡ w → r .strip3 ≡ x → r .strip4 ≡ y → r .strip5 ≡ z → bytesOf r behind ≡ strips v w x y z ++ drop answerBytes behind
     listed {v} {w} {x} {y} {z} p q s t u = rw (p, q, s, t, u)
 
 -- solvable or singular, as the size of the given pairing says
@@ -161,12 +162,12 @@ module _ (edge : Rel) (ord : ℕ → ℕ → ℕ) (l : List ℕ) (r : Row) (t : 
   short : (eqb E U && eqb (size E U M) E) ≡ false → every (singularTests E U edge M r) ≡ true
   short w = rw w at (at 3)
 
-  verdict : Verdict E U edge ord (r .number) (stripsOf r)
-  verdict = record {
+  verdict : (behind : List ℕ) → Verdict E U edge ord behind (r .number) (bytesOf r behind)
+  verdict behind = record {
     rank = size E U M;
     ranked = rank-is E U edge M k (at 1);
-    solvable = λ p q. solved E edge ord (size E U M) r (full (and-both (eq-eqb E U p) (eq-eqb (size E U M) E q)));
-    singular = λ n. singular E U edge M r k (at 1) (at 2) (short (not-true (λ w.
+    solvable = λ p q. solved E edge ord (size E U M) r behind (full (and-both (eq-eqb E U p) (eq-eqb (size E U M) E q)));
+    singular = λ n. singular E U edge M r behind k (at 1) (at 2) (short (not-true (λ w.
         n (eqb-true E U (and-left (eqb E U) (eqb (size E U M) E) w)) (eqb-true (size E U M) E (and-right (eqb E U) (eqb (size E U M) E) w)))));
   }
 
@@ -192,7 +193,7 @@ abbrev judged : Row → Bool
 judged r = inLimits (r .equations) (r .unknowns)
     && (eqb (length (r .table)) (r .equations * r .unknowns) && not (ltb (firstAbove (r .table)) (length (r .table))))
 
-not-refused : (r : Row) → judged r ≡ true → (before : List ℕ) → answerBytes ≤ length before → refusal (r .equations) (r .unknowns) (r .table) before ≡ 0
+not-refused : (r : Row) → judged r ≡ true → (before : List ℕ) → answerBytes ≤ length before → refusal (r .equations) (r .unknowns) (r .table) (length before) ≡ 0
 not-refused r t before h =
     let a = inLimits (r .equations) (r .unknowns) in
     let b = eqb (length (r .table)) (r .equations * r .unknowns) in
@@ -218,13 +219,9 @@ holds r l t before h =
     let w = limits (r .equations) (r .unknowns) (and-left (inLimits (r .equations) (r .unknowns)) _ j) in
     record {
       refused = λ n. absurd (n z);
-      analysed = λ _. record {
-        answer = stripsOf r;
-        verdict = subst (λ (f : ℕ → ℕ → ℕ). Verdict (r .equations) (r .unknowns) (λ e u. not (eqb (f e u) 0)) (λ e u. f e u - 1) (r .number) (stripsOf r))
-            (sym (codes-are (r .equations) (r .unknowns) (r .table) (w .0 .high) (w .1 .high)))
-            (verdict (λ e u. not (eqb (codes e u) 0)) (λ e u. codes e u - 1) l r (and-right (judged r) rest t));
-        holds = refl;
-      };
+      verdict = λ _. subst (λ (f : ℕ → ℕ → ℕ). Verdict (r .equations) (r .unknowns) (λ e u. not (eqb (f e u) 0)) (λ e u. f e u - 1) before (r .number) (bytesOf r before))
+          (sym (codes-are (r .equations) (r .unknowns) (r .table) (w .0 .high) (w .1 .high)))
+          (verdict (λ e u. not (eqb (codes e u) 0)) (λ e u. codes e u - 1) l r (and-right (judged r) rest t) before);
     }
 
 abbrev tableTest : List Row → List (List ℕ) → Bool

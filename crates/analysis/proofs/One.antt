@@ -20,14 +20,14 @@ use Rattle.counts.specs.Work.{numberAt}
 use Rattle.counts.proofs.Fit.{one-count, one-top}
 use Rattle.blocks.specs.Blocks.{needsAt, Placed}
 use Rattle.blocks.proofs.Placed.{one-placing, one-number}
-use Rattle.analysis.specs.Outcome.{packed, strips, refusal, Refused, Solved, Singular, Verdict, Analysed, Reply}
+use Rattle.analysis.specs.Outcome.{packed, strips, refusal, Refused, Solved, Singular, Verdict, Reply}
 
 -- lists of one length that agree below it are one
 same-list : (n : ℕ) (l l′ : List ℕ) → length l ≡ n → length l′ ≡ n → ((i : ℕ) → i < n → numberAt l i ≡ numberAt l′ i) → l ≡ l′
 same-list n l l′ a b h = ext-getD 0 l l′ (a ∙ sym b) (λ i w. h i (rw a at w))
 
-module _ {n : ℕ} {edge : Rel} {ord : ℕ → ℕ → ℕ} {rank number number′ : ℕ} {answer answer′ : List ℕ}
-    (a : Solved n edge ord rank number answer) (b : Solved n edge ord rank number′ answer′) where
+module _ {n : ℕ} {edge : Rel} {ord : ℕ → ℕ → ℕ} {rank number number′ : ℕ} {before after after′ : List ℕ}
+    (a : Solved n edge ord rank before number after) (b : Solved n edge ord rank before number′ after′) where
   counts-one : a .counts ≡ b .counts
   counts-one = same-list n (a .counts) (b .counts) (a .sizes .0) (b .sizes .0)
       (one-count n n edge ord (numberAt (a .counts)) (numberAt (a .tops)) (numberAt (b .counts)) (numberAt (b .tops)) (a .least) (b .least))
@@ -46,7 +46,7 @@ module _ {n : ℕ} {edge : Rel} {ord : ℕ → ℕ → ℕ} {rank number number�
       (numberAt (b .order)) (numberAt (b .block)) (b .blocks)
   placed-too = rw (counts-one, tops-one, partner-one) (b .placed)
 
-  solved-one : (number ≡ number′) × (answer ≡ answer′)
+  solved-one : (number ≡ number′) × (after ≡ after′)
   solved-one =
       let same = one-placing (a .placed) placed-too in
       let order = same-list n (a .order) (b .order) (a .sizes .3) (b .sizes .3) (same .order) in
@@ -54,12 +54,12 @@ module _ {n : ℕ} {edge : Rel} {ord : ℕ → ℕ → ℕ} {rank number number�
       let blocks = one-number (a .placed) placed-too in
       (a .says ∙ (rw (counts-one, tops-one, blocks)) ∙ sym (b .says), a .holds ∙ (rw (counts-one, tops-one, partner-one, order, block)) ∙ sym (b .holds))
 
-singular-one : {E U : ℕ} {edge : Rel} {rank number number′ : ℕ} {answer answer′ : List ℕ}
-    → Singular E U edge rank number answer → Singular E U edge rank number′ answer′ → (number ≡ number′) × (answer ≡ answer′)
+singular-one : {E U : ℕ} {edge : Rel} {rank number number′ : ℕ} {before after after′ : List ℕ}
+    → Singular E U edge rank before number after → Singular E U edge rank before number′ after′ → (number ≡ number′) × (after ≡ after′)
 singular-one a b = (a .says ∙ sym (b .says), a .holds ∙ (rw (listed-one (a .allSurplus) (b .allSurplus), listed-one (a .allUnfixed) (b .allUnfixed))) ∙ sym (b .holds))
 
-verdict-one : {E U : ℕ} {edge : Rel} {ord : ℕ → ℕ → ℕ} {number number′ : ℕ} {answer answer′ : List ℕ}
-    → Verdict E U edge ord number answer → Verdict E U edge ord number′ answer′ → (number ≡ number′) × (answer ≡ answer′)
+verdict-one : {E U : ℕ} {edge : Rel} {ord : ℕ → ℕ → ℕ} {before : List ℕ} {number number′ : ℕ} {after after′ : List ℕ}
+    → Verdict E U edge ord before number after → Verdict E U edge ord before number′ after′ → (number ≡ number′) × (after ≡ after′)
 verdict-one {E} {U} a b =
     let r : b .rank ≡ a .rank = rank-one (b .ranked) (a .ranked) in
     test (eqb E U) (λ s. test (eqb (a .rank) E)
@@ -70,11 +70,8 @@ verdict-one {E} {U} a b =
 -- any two outcomes of one input agree, number and bytes
 pub one-outcome : {E U : ℕ} {table before : List ℕ} {number number′ : ℕ} {after after′ : List ℕ}
     → Reply E U table before number after → Reply E U table before number′ after′ → (number ≡ number′) × (after ≡ after′)
-one-outcome {E} {U} {table} {before} a b = test (eqb (refusal E U table before) 0)
-    (λ t. let z = eqb-true (refusal E U table before) 0 t in
-    let x = a .analysed z in let y = b .analysed z in
-    let v = verdict-one (x .verdict) (y .verdict) in
-    (v .0, x .holds ∙ (rw (v .1)) ∙ sym (y .holds)))
-    (λ t. let z = eqb-false (refusal E U table before) 0 t in
+one-outcome {E} {U} {table} {before} a b = test (eqb (refusal E U table (length before)) 0)
+    (λ t. let z = eqb-true (refusal E U table (length before)) 0 t in verdict-one (a .verdict z) (b .verdict z))
+    (λ t. let z = eqb-false (refusal E U table (length before)) 0 t in
     let x = a .refused z in let y = b .refused z in
     (x .says ∙ sym (y .says), x .holds ∙ sym (y .holds)))

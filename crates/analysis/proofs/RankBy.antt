@@ -17,7 +17,8 @@ use Rattle.pairing.specs.Holders.{Reach}
 use Rattle.pairing.specs.Holders.Reach.{start, step}
 use Rattle.pairing.specs.Members.{members}
 use Rattle.pairing.proofs.Sizes.{turned, has-pair}
-use Rattle.pairing.proofs.Certificate.{Certificate, largest, left-over}
+use Rattle.pairing.specs.Left.{Certificate}
+use Rattle.pairing.proofs.Certificate.{largest, left-over}
 use Rattle.pairing.proofs.Turn.{left-over-unknown}
 use Rattle.pairing.proofs.Lists.{members-listed}
 use Rattle.analysis.proofs.Finite.{all, all-at, all2, all2-at, implies, implies-at}

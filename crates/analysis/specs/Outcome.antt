@@ -34,12 +34,12 @@ strips a b c d e = strip a ++ (strip b ++ (strip c ++ (strip d ++ strip e)))
 abbrev pub answerBytes : ℕ
 answerBytes = 5 * limit
 
--- checked in the order 1, 2, 3, 4; the first that applies, and 0 where none does
-abbrev pub refusal : ℕ → ℕ → List ℕ → List ℕ → ℕ
-refusal E U table before =
+-- checked in the order 1, 2, 3, 4; the first that applies, and 0 where none does; `room` is the answer buffer's length
+abbrev pub refusal : ℕ → ℕ → List ℕ → ℕ → ℕ
+refusal E U table room =
     pick (not (inLimits E U)) 1
     (pick (not (eqb (length table) (E * U))) 2
-    (pick (ltb (length before) answerBytes) 3
+    (pick (ltb room answerBytes) 3
     (pick (ltb (firstAbove table) (length table)) 4
     0)))
 
@@ -53,8 +53,8 @@ pub record Refused (code : ℕ) (table before : List ℕ) (number : ℕ) (after 
   pub holds : after ≡ before
 
 -- code 0, solvable: place 0, the rest true; the strips are counts by equation, tops by unknown, partner by equation, equations in solving order,
--- and the block number of each place in that order
-pub record Solved (n : ℕ) (edge : Rel) (ord : ℕ → ℕ → ℕ) (rank number : ℕ) (answer : List ℕ) : Type 0 where
+-- and the block number of each place in that order; bytes behind the strips are not written
+pub record Solved (n : ℕ) (edge : Rel) (ord : ℕ → ℕ → ℕ) (rank : ℕ) (before : List ℕ) (number : ℕ) (after : List ℕ) : Type 0 where
   pub counts : List ℕ
   pub tops : List ℕ
   pub partner : List ℕ
@@ -66,31 +66,25 @@ pub record Solved (n : ℕ) (edge : Rel) (ord : ℕ → ℕ → ℕ) (rank numbe
   pub first : First n n (leading edge ord (numberAt counts) (numberAt tops)) (numberAt partner)
   pub placed : Placed n (needsAt n (leading edge ord (numberAt counts) (numberAt tops)) (numberAt partner)) (numberAt order) (numberAt block) blocks
   pub says : number ≡ packed 0 0 rank (indexOf n (numberAt counts)) (freedomOf n n (numberAt counts) (numberAt tops)) blocks
-  pub holds : answer ≡ strips counts tops (map suc partner) (map suc order) block
+  pub holds : after ≡ strips counts tops (map suc partner) (map suc order) block ++ drop answerBytes before
 
--- code 10, singular: rank true, others 0; the strips are surplus ascending, unfixed ascending, three of 255
-pub record Singular (E U : ℕ) (edge : Rel) (rank number : ℕ) (answer : List ℕ) : Type 0 where
+-- code 10, singular: rank true, others 0; the strips are surplus ascending, unfixed ascending, three of 255; bytes behind the strips are not written
+pub record Singular (E U : ℕ) (edge : Rel) (rank : ℕ) (before : List ℕ) (number : ℕ) (after : List ℕ) : Type 0 where
   pub surplus : List ℕ
   pub unfixed : List ℕ
   pub allSurplus : Listed E (Surplus E U edge) surplus
   pub allUnfixed : Listed U (Unfixed E U edge) unfixed
   pub says : number ≡ packed 10 0 rank 0 0 0
-  pub holds : answer ≡ strips (map suc surplus) (map suc unfixed) [] [] []
+  pub holds : after ≡ strips (map suc surplus) (map suc unfixed) [] [] [] ++ drop answerBytes before
 
 -- solvable means E = U = rank; all else within the limits is singular
-pub record Verdict (E U : ℕ) (edge : Rel) (ord : ℕ → ℕ → ℕ) (number : ℕ) (answer : List ℕ) : Type 0 where
+pub record Verdict (E U : ℕ) (edge : Rel) (ord : ℕ → ℕ → ℕ) (before : List ℕ) (number : ℕ) (after : List ℕ) : Type 0 where
   pub rank : ℕ
   pub ranked : Rank E U edge rank
-  pub solvable : E ≡ U → rank ≡ E → Solved E edge ord rank number answer
-  pub singular : (E ≡ U → rank ≡ E → ⊥) → Singular E U edge rank number answer
+  pub solvable : E ≡ U → rank ≡ E → Solved E edge ord rank before number after
+  pub singular : (E ≡ U → rank ≡ E → ⊥) → Singular E U edge rank before number after
 
--- the verdict on the lent table; bytes from 160 on are not written
-pub record Analysed (E U : ℕ) (table before : List ℕ) (number : ℕ) (after : List ℕ) : Type 0 where
-  pub answer : List ℕ
-  pub verdict : Verdict E U (occursAt (rowsOf E U table)) (orderAt (rowsOf E U table)) number answer
-  pub holds : after ≡ answer ++ drop answerBytes before
-
--- what the analysis hands back
+-- what the analysis hands back: the first refusal that applies, or else the verdict on the lent table
 pub record Reply (E U : ℕ) (table before : List ℕ) (number : ℕ) (after : List ℕ) : Type 0 where
-  pub refused : (refusal E U table before ≡ 0 → ⊥) → Refused (refusal E U table before) table before number after
-  pub analysed : refusal E U table before ≡ 0 → Analysed E U table before number after
+  pub refused : (refusal E U table (length before) ≡ 0 → ⊥) → Refused (refusal E U table (length before)) table before number after
+  pub verdict : refusal E U table (length before) ≡ 0 → Verdict E U (occursAt (rowsOf E U table)) (orderAt (rowsOf E U table)) before number after
