@@ -7,3 +7,4 @@ pub mod LeastBy
 pub mod FirstBy
 pub mod PlacedBy
 pub mod Checked
+pub mod Strips
