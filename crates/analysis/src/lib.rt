@@ -1,0 +1,2 @@
+// The analysis: the verdict on a model, the five strips, and the entry that the screen calls.
+pub mod strip;

@@ -1,0 +1,4 @@
+-- The laws of blocks.
+pub mod Reach
+pub mod Placed
+pub mod Number
