@@ -30,8 +30,8 @@ judged E U b w f e u h k =
 
 pub ready : (n : ℕ) (b : List ℕ) (k : ℕ) → wellSized n n b ≡ true → firstAbove b ≡ length b → Rank n n (occursAt (rowsOf n n b)) k → k ≡ n → Ready n (rowsOf n n b)
 ready n b k w f r e = record {
-      within = sized n n b w .equations .high;
-      codes = judged n n b w f;
-      pairs = r .pairs;
-      full = size-full (r .largest .ok) (r .counts ∙ e)
-    }
+  within = sized n n b w .equations .high;
+  codes = judged n n b w f;
+  pairs = r .pairs;
+  full = size-full (r .largest .ok) (r .counts ∙ e);
+}

@@ -15,10 +15,10 @@ ghost use Prim.Native.Nat.{_≤_};
 ghost use Rattle.table.specs.Model.{limit};
 ghost use Rattle.counts.specs.Work.{Ready};
 
-fn wide(x: u8) -> u64
+fn wide(x: u8) -> usize
     ensures { λ r. ⌜ r ≡ x ⌝ }
 {
-    x as u64
+    x as usize
 }
 
 fn print(text: &[u8]) {
@@ -30,7 +30,7 @@ fn print_next(i: usize, number: u8) {
     if 0 < i {
         print(b",");
     }
-    io::print_decimal(STDOUT_FILENO, wide(number));
+    io::print_decimal(STDOUT_FILENO, number as u64);
 }
 
 fn print_numbers(n: usize, numbers: &[u8; LIMIT])
@@ -60,6 +60,20 @@ fn print_end() {
     print(b"\n");
 }
 
+fn print_line(label: &[u8], n: usize, numbers: &[u8; LIMIT])
+    requires { ⌜ n ≤ limit ⌝ }
+{
+    print(label);
+    print_numbers(n, numbers);
+    print_end();
+}
+
+fn print_figure(label: &[u8], figure: u8) {
+    print(label);
+    print_next(0, figure);
+    print_end();
+}
+
 // A solvable model.
 fn print_answer(n: usize, table: &[[u8; LIMIT]; LIMIT])
     requires { ⌜ Ready n (now table) ⌝ }
@@ -68,40 +82,35 @@ fn print_answer(n: usize, table: &[[u8; LIMIT]; LIMIT])
     let counts = choice.counts;
     let tops = choice.tops;
     let leading = leading_rows(table, n, &counts, &tops);
-    print(b"counts=");
-    print_numbers(n, &counts);
-    print(b"\ntops=");
-    print_numbers(n, &tops);
-    print(b"\nindex=");
-    print_next(0, index(n, &counts));
-    print(b"\nfreedom=");
-    print_next(0, freedom(n, &counts, &tops));
-    print(b"\nleading=\n");
+    let free = freedom(n, &counts, &tops);
+    let highest = index(n, &counts);
+    print_line(b"counts=", n, &counts);
+    print_line(b"tops=", n, &tops);
+    print_figure(b"index=", highest);
+    print_figure(b"freedom=", free);
     print_rows(n, &leading);
 }
 
 // A model of n equations and n unknowns, from its lent table.
 fn show(name: &[u8], n: usize, bytes: &[u8]) {
+    print_name(name);
+    if well_sized(n, n, bytes) {
+        if first_above(bytes) == bytes.len() {
+            let table = filled(n, n, bytes);
+            let left = left_over(&table, n, n);
+            let rank = left.rank;
+            if wide(rank) == n {
+                print_answer(n, &table);
+            } else {
+                print_figure(b"singular rank=", rank);
+            }
+        }
+    }
+}
+
+fn print_name(name: &[u8]) {
     print(name);
-    if !well_sized(n, n, bytes) {
-        print(b"\nsize\n");
-        return;
-    }
-    if first_above(bytes) != bytes.len() {
-        print(b"\ncode\n");
-        return;
-    }
-    let table = filled(n, n, bytes);
-    let left = left_over(&table, n, n);
-    let rank = left.rank;
-    if wide(rank) != n as u64 {
-        print(b"\nsingular rank=");
-        print_next(0, rank);
-        print_end();
-        return;
-    }
     print_end();
-    print_answer(n, &table);
 }
 
 // Equation i has unknown i at order 0 and, but for the first, unknown i - 1 at order 3.
@@ -129,7 +138,31 @@ fn main() {
         b"pendulum",
         5,
         &[
-            2, 0, 1, 0, 0, 0, 2, 0, 1, 0, 1, 0, 2, 0, 1, 0, 1, 0, 2, 1, 1, 1, 0, 0, 0,
+            2,
+            0,
+            1,
+            0,
+            0,
+            0,
+            2,
+            0,
+            1,
+            0,
+            1,
+            0,
+            2,
+            0,
+            1,
+            0,
+            1,
+            0,
+            2,
+            1,
+            1,
+            1,
+            0,
+            0,
+            0,
         ],
     );
     show(b"chain", 32, &chain());

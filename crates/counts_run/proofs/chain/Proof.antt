@@ -1,57 +1,49 @@
+-- `chain` stores within its array.
+use Prim.Native.Nat.{_-_, _≤_}
+use lib.ListN.{length}
+use mathlib.Core.Path.{_≡_}
+use borrow.Author.Needs.{needs}
 use Rattle.counts_run.proofs.chain.Statement.{statement}
 use Rattle.counts_run.proofs.chain.Tie as tie
-use Rattle.counts_run.proofs.chain.Reads as reads
-use Rattle.counts_run.proofs.chain.Lts as lts
 
 abbrev Inv-loop : tie.InvT-loop
-Inv-loop table₀ i₀ table i = ?
+Inv-loop table₀ i₀ table i = (i ≤ 31) × (length table ≡ 1024)
 
 abbrev μ-loop : tie.MeasureT-loop
-μ-loop table₀ i₀ table i = ?
+μ-loop table₀ i₀ table i = 31 - i
 
--- src/main.rt:111:5
 loop-holds : tie.Need-loop-holds Inv-loop μ-loop
-loop-holds c = ?
+loop-holds c = search needs
 
--- src/main.rt:112:15
 mul-table : tie.Need-mul-table Inv-loop μ-loop
-mul-table c = ?
+mul-table c = search needs
 
--- src/main.rt:112:9
 array-write-table : tie.Need-array-write-table Inv-loop μ-loop
-array-write-table c = ?
+array-write-table c = search needs
 
--- src/main.rt:113:15
 mul-table-2 : tie.Need-mul-table-2 Inv-loop μ-loop
-mul-table-2 c = ?
+mul-table-2 c = search needs
 
--- src/main.rt:113:15
 add-table : tie.Need-add-table Inv-loop μ-loop
-add-table c = ?
+add-table c = search needs
 
--- src/main.rt:113:9
 array-write-table-2 : tie.Need-array-write-table-2 Inv-loop μ-loop
-array-write-table-2 c = ?
+array-write-table-2 c = search needs
 
--- src/main.rt:114:9
 add-i : tie.Need-add-i Inv-loop μ-loop
-add-i c = ?
+add-i c = search needs
 
--- src/main.rt:111:5
 loop-less : tie.Need-loop-less Inv-loop μ-loop
-loop-less c = ?
+loop-less c = search needs
 
--- src/main.rt:111:5
 loop-again : tie.Need-loop-again Inv-loop μ-loop
-loop-again c = ?
+loop-again c = search needs
 
--- src/main.rt:116:5
 array-write-table-3 : tie.Need-array-write-table-3 Inv-loop μ-loop
-array-write-table-3 c = ?
+array-write-table-3 c = search needs
 
--- src/main.rt:108:1
 returns : tie.Need-returns Inv-loop μ-loop
-returns c = ?
+returns c = search needs
 
 pub chain-spec : {M : Type 1} → statement M
 chain-spec =

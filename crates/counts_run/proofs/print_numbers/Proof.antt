@@ -1,42 +1,35 @@
+-- `print_numbers` reads within its array, and ends.
+use Prim.Native.Nat.{_-_, _≤_}
+use borrow.Author.Needs.{needs}
 use Rattle.counts_run.proofs.print_numbers.Statement.{statement}
 use Rattle.counts_run.proofs.print_numbers.Tie as tie
-use Rattle.counts_run.proofs.print_numbers.Reads as reads
-use Rattle.counts_run.proofs.print_numbers.Lts as lts
-use Rattle.counts_run.proofs.print_next.Reads as print-next-reads
 
 abbrev Inv-loop : tie.InvT-loop
-Inv-loop n numbers i₀ i = ?
+Inv-loop n numbers i₀ i = i ≤ n
 
 abbrev μ-loop : tie.MeasureT-loop
-μ-loop n numbers i₀ i = ?
+μ-loop n numbers i₀ i = n - i
 
--- src/main.rt:40:5
 loop-holds : tie.Need-loop-holds Inv-loop μ-loop
-loop-holds c = ?
+loop-holds c = search needs
 
--- src/main.rt:41:23
 element-copy-out-print-next : tie.Need-element-copy-out-print-next Inv-loop μ-loop
-element-copy-out-print-next c = ?
+element-copy-out-print-next c = search needs
 
--- src/main.rt:41:9
 print-next-requires : tie.Need-print-next-requires Inv-loop μ-loop
-print-next-requires c κs = ?
+print-next-requires c κs = search needs
 
--- src/main.rt:42:9
 add-i : tie.Need-add-i Inv-loop μ-loop
-add-i c = ?
+add-i c = search needs
 
--- src/main.rt:40:5
 loop-less : tie.Need-loop-less Inv-loop μ-loop
-loop-less c = ?
+loop-less c = search needs
 
--- src/main.rt:40:5
 loop-again : tie.Need-loop-again Inv-loop μ-loop
-loop-again c = ?
+loop-again c = search needs
 
--- src/main.rt:36:1
 returns : tie.Need-returns Inv-loop μ-loop
-returns c = ?
+returns c = search needs
 
 pub print-numbers-spec : {M : Type 1} → statement M
 print-numbers-spec =
