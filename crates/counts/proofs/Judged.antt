@@ -21,14 +21,16 @@ none-above (x ∷ b) e (suc i) h = test (leb x topCode)
     (λ t. let z = rw t at e in none-above b (omega arith) i (omega arith))
     (λ t. let z = rw t at e in absurd (omega arith))
 
-pub judged : (E U : ℕ) (b : List ℕ) → wellSized E U b ≡ true → firstAbove b ≡ length b → (e u : ℕ) → e < E → u < U → codeAt (rowsOf E U b) e u ≤ topCode
+pub judged : (E U : ℕ) (b : List ℕ) → wellSized E U b ≡ true → firstAbove b ≡ length b
+    → (e u : ℕ) → e < E → u < U → codeAt (rowsOf E U b) e u ≤ topCode
 judged E U b w f e u h k =
     let s = sized E U b w in
     let r = row-within E U e h in
     let i : e * U + u < length b = rw (s .bytes) (omega arith) in
     rw (square-at (lentCode E U b) e u (omega arith) (omega arith), lt-ltb e E h, lt-ltb u U k) (none-above b f (e * U + u) i)
 
-pub ready : (n : ℕ) (b : List ℕ) (k : ℕ) → wellSized n n b ≡ true → firstAbove b ≡ length b → Rank n n (occursAt (rowsOf n n b)) k → k ≡ n → Ready n (rowsOf n n b)
+pub ready : (n : ℕ) (b : List ℕ) (k : ℕ) → wellSized n n b ≡ true → firstAbove b ≡ length b
+    → Rank n n (occursAt (rowsOf n n b)) k → k ≡ n → Ready n (rowsOf n n b)
 ready n b k w f r e = record {
   within = sized n n b w .equations .high;
   codes = judged n n b w f;
