@@ -74,7 +74,9 @@ module _ (m n k : ℕ) (edge : Rel) (ord : ℕ → ℕ → ℕ) (orders : (e u :
         let s : leb t (c e) ≡ true = omega (arith, tests) in absurd (smaller s (rw s at z)))
       where
         clear : ((g : ℕ) → g < m → (ltb (c g) t && leb t (c g + k)) ≡ false) → (g : ℕ) → g < m → c g < t → c g + k < t
-        clear none g w p = test (leb t (c g + k)) (λ q. let r : ltb (c g) t ≡ true = omega (arith, tests) in clash (and-both r q) (none g w)) (λ q. omega (arith, tests))
+        clear none g w p =
+            let r : ltb (c g) t ≡ true = omega (arith, tests) in
+            test (leb t (c g + k)) (λ q. clash (and-both r q) (none g w)) (λ q. omega (arith, tests))
 
         smaller : leb t (c e) ≡ true → c e ≤ c e - bit true → ⊥
         smaller s z = omega arith

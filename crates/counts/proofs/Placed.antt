@@ -67,7 +67,8 @@ module _ (n : ℕ) (edge : Rel) (ord : ℕ → ℕ → ℕ) (P : Rel) (full : Fu
         omega arith
 
 -- every equation paired: the least choice, over the leading occurrences
-module _ (n : ℕ) (edge : Rel) (ord : ℕ → ℕ → ℕ) (c d : ℕ → ℕ) (M : Rel) (p : Placed n edge ord n c M) (tops : (u : ℕ) → u < n → d u ≡ high n edge ord c u) where
+module _ (n : ℕ) (edge : Rel) (ord : ℕ → ℕ → ℕ) (c d : ℕ → ℕ) (M : Rel) (p : Placed n edge ord n c M)
+    (tops : (u : ℕ) → u < n → d u ≡ high n edge ord c u) where
   leads : (e u : ℕ) → M e u ≡ true → (edge e u ≡ true) × (d u ≡ ord e u + c e)
   leads e u t =
       let l = p .pairs .fits e u t in

@@ -3,17 +3,17 @@
 use mathlib.Core.Path.{_≡_, refl, sym, _∙_, ap, fun-ext}
 use mathlib.Core.Bool.{Bool, true, false, not, _&&_}
 use mathlib.Core.List.{List, []}
-use Prim.Native.Nat.{ℕ, zero, suc, _+_, _-_, _<_, _≤_}
+use Prim.Native.Nat.{ℕ, suc, _+_, _-_, _<_, _≤_}
 use native.Mathlib.Omega.{arith}
 use lib.Dec.{ltb, eqb}
-use lib.ListN.{getD, replicate}
+use lib.ListN.{replicate}
 use borrow.Author.Tests.{lt-ltb, le-ltb, ltb-true, ltb-false, eqb-true}
 use Rattle.laws.specs.Count.{bit, sum}
 use Rattle.laws.specs.Marks.{marked}
 use Rattle.laws.specs.Tab.{tab, pick}
 use Rattle.laws.proofs.Tests.{test, either, given, clash, tests, not-true, and-left, and-right}
 use Rattle.laws.proofs.Sum.{bit-false}
-use Rattle.laws.proofs.Tab.{getD-tab, getD-past}
+use Rattle.laws.proofs.Tab.{getD-tab, getD-past, copies-at}
 use Rattle.table.specs.Model.{limit, codeAt, occursAt, orderAt, square}
 use Rattle.table.specs.declared.number.Equation.{Equation}
 use Rattle.table.proofs.Model.{square-at}
@@ -26,12 +26,6 @@ use Rattle.counts.specs.Placing.{PlacedIn, raisedBy}
 use Rattle.counts.proofs.Over.{over-pairs, over-reach}
 use Rattle.counts.proofs.Raising.{Stuck, raised}
 use Rattle.counts.proofs.Placed.{begin, count-few, raise, nearer, least, paired}
-
--- a list of one value
-pub getD-same : {A : Type 0} (n i : ℕ) (a : A) → getD (replicate n a) i a ≡ a
-getD-same zero i a = refl
-getD-same (suc n) zero a = refl
-getD-same (suc n) (suc i) a = getD-same n i a
 
 -- beyond the rows and columns of a square nothing occurs
 square-in : (f : ℕ → ℕ → ℕ) (e u : ℕ) → occursAt (square f) e u ≡ true → (e < limit) × (u < limit)
@@ -95,7 +89,7 @@ module _ (n : ℕ) (t : List (List ℕ)) (counts : List ℕ) (small : n ≤ limi
     equations = most;
     unknowns = small;
     asker = omega arith;
-    fresh = getD-same limit f false;
+    fresh = copies-at limit false f;
     free = p .waiting f (omega arith);
     ok = over-pairs more (p .pairs) (λ e u k. same e u (p .pairs .row e u k) (p .pairs .col e u k) ∙ p .pairs .fits e u k);
   }
@@ -108,12 +102,12 @@ module _ (n : ℕ) (t : List (List ℕ)) (counts : List ℕ) (small : n ≤ limi
     free = p .waiting f (omega arith);
     self = none .self;
     reached = reached;
-    closed = λ e u m h l. none .closed e u m (λ before. clash before (getD-same limit e false)) h
+    closed = λ e u m h l. none .closed e u m (λ before. clash before (copies-at limit false e)) h
         (same e u (reach-within (p .pairs) b (reached e m)) h ∙ l);
   }
     where
       reached : (e : ℕ) → marked asked e ≡ true → Reach (leadOf n t counts) (held holders) f e
-      reached e m = either (none .reached e m) (λ before. clash before (getD-same limit e false)) (λ r. over-reach to-lead r)
+      reached e m = either (none .reached e m) (λ before. clash before (copies-at limit false e)) (λ r. over-reach to-lead r)
 
   -- a search that found
   pub found : (f : ℕ) (holders holders′ : List Equation) → PlacedIn n t f counts holders
@@ -133,9 +127,9 @@ module _ (n : ℕ) (t : List (List ℕ)) (ready : Ready n t) where
 
   -- before the first search
   pub begin-in : PlacedIn n t 0 (replicate limit 0) (replicate limit (record { 0 = 0 }))
-  begin-in = begin n (occursAt t) (orderAt t) (numberAt (replicate limit 0)) (held (replicate limit (record { 0 = 0 }))) orders (λ e. getD-same limit e 0)
+  begin-in = begin n (occursAt t) (orderAt t) (numberAt (replicate limit 0)) (held (replicate limit (record { 0 = 0 }))) orders (λ e. copies-at {A = ℕ} limit 0 e)
       (λ e u m.
-      let z : holder (replicate limit (record { 0 = 0 })) u ≡ 0 = ap (λ (x : Equation). x .0) (getD-same {A = Equation} limit u (record { 0 = 0 })) in
+      let z : holder (replicate limit (record { 0 = 0 })) u ≡ 0 = ap (λ (x : Equation). x .0) (copies-at {A = Equation} limit (record { 0 = 0 }) u) in
       let k = eqb-true (holder (replicate limit (record { 0 = 0 })) u) (suc e) m in
       omega arith)
 

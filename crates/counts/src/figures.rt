@@ -44,7 +44,8 @@ fn total(n: usize, numbers: &[u8; LIMIT]) -> usize
 
 // Freedom: sum of tops less sum of counts. Of a fit choice it is at most 3 for each equation, so it fits.
 pub fn freedom(n: usize, counts: &[u8; LIMIT], tops: &[u8; LIMIT]) -> u8
-    requires { ⌜ (n ≤ limit) × (sum n (numberAt (now counts)) ≤ sum n (numberAt (now tops))) × (freedomOf n n (numberAt (now counts)) (numberAt (now tops)) ≤ 255) ⌝ }
+    requires { ⌜ (n ≤ limit) × (sum n (numberAt (now counts)) ≤ sum n (numberAt (now tops)))
+        × (freedomOf n n (numberAt (now counts)) (numberAt (now tops)) ≤ 255) ⌝ }
     ensures { λ r. ⌜ r ≡ freedomOf n n (numberAt (now (counts .entry))) (numberAt (now (tops .entry))) ⌝ }
 {
     (total(n, tops) - total(n, counts)) as u8

@@ -2,3 +2,4 @@
 pub mod Count
 pub mod Marks
 pub mod Tab
+pub mod Text

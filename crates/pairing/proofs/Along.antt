@@ -1,7 +1,7 @@
 -- Whoever is reached from an equation that a largest pairing leaves over is itself left over by some largest pairing.
 -- Induction on the way, keeping for all equations met so far a largest pairing that leaves that one over and changes only what equations met so far hold:
 -- the next equation, if it is new, still holds its unknown in the pairing that leaves the one before over, and hands it to that one.
-use mathlib.Core.Path.{_≡_, refl, _∙_}
+use mathlib.Core.Path.{_≡_, refl}
 use mathlib.Core.Bool.{Bool, true, false, _||_}
 use Prim.Native.Nat.{ℕ, _<_}
 use native.Mathlib.Omega.{arith}
@@ -10,7 +10,7 @@ use borrow.Author.Tests.{eqb-true, eqb-false, eq-eqb}
 use Rattle.laws.proofs.Tests.{test, either, given, clash, not-true, or-cases, or-left, or-right}
 use Rattle.pairing.specs.Pairing.{Rel, turn, Largest, LeftOver, Surplus}
 use Rattle.pairing.specs.Holders.{Reach, start, step}
-use Rattle.pairing.proofs.Give.{given-to, given-cases, given-other, given-here, give}
+use Rattle.pairing.proofs.Give.{given-to, given-pairing, given-is}
 use Rattle.pairing.proofs.Sizes.{turned, size-turned, covers, as-large}
 
 -- an equation a that Q leaves over takes u from e: each unknown that was held is held, and e is left over
@@ -18,15 +18,15 @@ module _ {m n : ℕ} {edge Q : Rel} (l : Largest m n edge Q) (a u e : ℕ) (insi
     (holds : Q e u ≡ true) where
   swapped : Largest m n edge (given-to Q a u)
   swapped =
-      let swap = give (l .ok) inside (l .ok .col e u holds) free fits in
+      let swap = given-pairing (l .ok) free inside (l .ok .col e u holds) fits (given-is Q a u) in
       let before = size-turned (l .ok) in
       let after = size-turned swap in
       let held = covers (turn Q) (turned swap) (λ v g t. test (eqb v u)
-      (λ i. (a, rw (eqb-true v u i) (given-here Q a u))) (λ i. (g, given-other Q a u g v (eqb-false v u i) ∙ t))) in
+      (λ i. (a, rw (eqb-true v u i) (given-is Q a u .here))) (λ i. (g, given-is Q a u .other g v (eqb-false v u i) t))) in
       as-large l swap (omega arith)
 
   freed : LeftOver (given-to Q a u) e
-  freed v t = either (given-cases Q a u e v t) (λ (p, q). free u (rw q at holds)) (λ (p, q). p (l .ok .oneU e v u q holds))
+  freed v t = either (given-is Q a u .cases e v t) (λ (p, q). free u (rw q at holds)) (λ (p, q). p (l .ok .oneU e v u q holds))
 
 -- a largest pairing that leaves x over, and in which the equations outside L hold what they hold in M
 record Frees (m n : ℕ) (edge M : Rel) (L : ℕ → Bool) (x : ℕ) : Type 0 where
@@ -59,7 +59,7 @@ module _ {m n : ℕ} {edge M : Rel} {a : ℕ} (s : Met m n edge M a) (e u : ℕ)
     most = swapped (q .most) a u e (q .inside) (q .over) fits had;
     over = freed (q .most) a u e (q .inside) (q .over) fits had;
     keeps = λ g v f t. given (outside g f) (λ (ne, o). let w = q .keeps g v o t in
-        given-other (q .pairs) a u g v (λ i. ne (q .most .ok .oneE g e u (rw i at w) had)) ∙ w);
+        given-is (q .pairs) a u .other g v (λ i. ne (q .most .ok .oneE g e u (rw i at w) had)) w);
   }
 
   met : Met m n edge M e

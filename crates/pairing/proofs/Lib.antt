@@ -6,9 +6,11 @@ pub mod Certificate
 pub mod Turn
 pub mod Solve
 pub mod Lists
-pub mod First
+pub mod Choice
 pub mod Hall
 pub mod Looking
 pub mod Searching
 pub mod Pass
 pub mod Over
+pub mod Trying
+pub mod Settling

@@ -18,14 +18,10 @@ use Rattle.table.specs.declared.number.Equation.{Equation}
 use Rattle.pairing.specs.Pairing.{Rel, Pairing, LeftOver}
 use Rattle.pairing.specs.Holders.{holder, held, Holds, Reach, start, step, Found, Nothing, Asking, Searched}
 use Rattle.pairing.specs.Looking.{FreeIn, AllHeld, NextIn}
+use Rattle.pairing.proofs.Give.{Given, given-pairing}
 
--- k is h with unknown u given to equation f
-pub record Given (h k : List Equation) (f u : ℕ) : Type 0 where
-  pub here : held k f u ≡ true
-  pub cases : (e v : ℕ) → held k e v ≡ true → ((v ≡ u) × (e ≡ f)) ⊎ ((v ≡ u → ⊥) × (held h e v ≡ true))
-  pub other : (e v : ℕ) → (v ≡ u → ⊥) → held h e v ≡ true → held k e v ≡ true
-
-pub giving : (h : List Equation) (f u : ℕ) (x : Equation) → u < length h → x .0 ≡ suc f → Given h (set h u x) f u
+-- an unknown stored as held by equation f, whose number is x
+pub giving : (h : List Equation) (f u : ℕ) (x : Equation) → u < length h → x .0 ≡ suc f → Given (held h) (held (set h u x)) f u
 giving h f u x b n = record {
   here = eq-eqb (holder (set h u x) u) (suc f) (same ∙ n);
   cases = λ e v t. test (eqb v u)
@@ -47,24 +43,9 @@ giving h f u x b n = record {
 pub restored : (h : List Equation) (u : ℕ) (x : Equation) → set (set h u x) u (getD h u (record { 0 = 0 })) ≡ h
 restored h u x = set-set h u x (getD h u (record { 0 = 0 })) ∙ set-getD h u (record { 0 = 0 })
 
--- to a free asker: a pairing again
-pub given-pairing : {m n : ℕ} {edge : Rel} {h k : List Equation} {f u : ℕ} → Pairing m n edge (held h) → LeftOver (held h) f → f < m → u < n → edge f u ≡ true
-    → Given h k f u → Pairing m n edge (held k)
-given-pairing {m} {n} {edge} {h} {k} {f} {u} ok free fm un ed g = record {
-  row = λ e v t. either (g .cases e v t) (λ (p, q). rw q fm) (λ (p, q). ok .row e v q);
-  col = λ e v t. either (g .cases e v t) (λ (p, q). rw p un) (λ (p, q). ok .col e v q);
-  fits = λ e v t. either (g .cases e v t) (λ (p, q). rw (p, q) ed) (λ (p, q). ok .fits e v q);
-  oneU = λ e v w s t. either (g .cases e v s)
-      (λ (p, q). either (g .cases e w t) (λ (p′, q′). p ∙ sym p′) (λ (p′, q′). absurd (free w (rw q at q′))))
-      (λ (p, q). either (g .cases e w t) (λ (p′, q′). absurd (free v (rw q′ at q))) (λ (p′, q′). ok .oneU e v w q q′));
-  oneE = λ e e′ v s t. either (g .cases e v s)
-      (λ (p, q). either (g .cases e′ v t) (λ (p′, q′). q ∙ sym q′) (λ (p′, q′). absurd (p′ p)))
-      (λ (p, q). either (g .cases e′ v t) (λ (p′, q′). absurd (p p′)) (λ (p′, q′). ok .oneE e e′ v q q′));
-}
-
 module _ {m n : ℕ} {edge : Rel} {f : ℕ} {a : List Bool} {h : List Equation} where
   -- the asker takes an unknown that nobody holds
-  pub takes : {k : List Equation} {u : ℕ} → Asking m n edge f a h → u < n → edge f u ≡ true → holder h u ≡ 0 → Given h k f u → Found m n edge f a h k
+  pub takes : {k : List Equation} {u : ℕ} → Asking m n edge f a h → u < n → edge f u ≡ true → holder h u ≡ 0 → Given (held h) (held k) f u → Found m n edge f a h k
   takes {k} {u} s un ed z g = record {
     ok = given-pairing (s .ok) (s .free) (s .asker) un ed g;
     gained = (u, g .here);
@@ -78,7 +59,7 @@ module _ {m n : ℕ} {edge : Rel} {f : ℕ} {a : List Bool} {h : List Equation} 
 
   -- the asker has u, and its former holder g may search
   pub asks : {b : List Bool} {k : List Equation} {g u : ℕ} → Asking m n edge f a h → edge f u ≡ true → held h g u ≡ true → marked b g ≡ false
-      → Given h k f u → Asking m n edge g b k
+      → Given (held h) (held k) f u → Asking m n edge g b k
   asks {b} {k} {g} {u} s ed hg nb gv = record {
     equations = s .equations;
     unknowns = s .unknowns;
@@ -90,7 +71,7 @@ module _ {m n : ℕ} {edge : Rel} {f : ℕ} {a : List Bool} {h : List Equation} 
 
   -- the former holder found another: so did the asker
   pub moves : {b : List Bool} {k k′ : List Equation} {g u : ℕ} → Asking m n edge f a h → held h g u ≡ true → marked b g ≡ false
-      → marked b f ≡ true × ((e : ℕ) → marked a e ≡ true → marked b e ≡ true) → Given h k f u → Found m n edge g b k k′ → Found m n edge f a h k′ × (held k′ f u ≡ true)
+      → marked b f ≡ true × ((e : ℕ) → marked a e ≡ true → marked b e ≡ true) → Given (held h) (held k) f u → Found m n edge g b k k′ → Found m n edge f a h k′ × (held k′ f u ≡ true)
   moves {b} {k} {k′} {g} {u} s hg nb (bf, more) gv r = (
     record {
       ok = r .ok;
@@ -145,9 +126,9 @@ wanted {h = h} all x ne u q =
     record { below = t .0; occurs = t .1; number = k; by = held-by h u k; fresh = t .2 }
 
 -- what is reached from the former holder, when the asker has u, is reached from the asker
-reach-back : {edge : Rel} {f : ℕ} {h k : List Equation} {g u e : ℕ} → edge f u ≡ true → held h g u ≡ true → Given h k f u → Reach edge (held k) g e → Reach edge (held h) f e
+reach-back : {edge Q R : Rel} {f g u e : ℕ} → edge f u ≡ true → Q g u ≡ true → Given Q R f u → Reach edge R g e → Reach edge Q f e
 reach-back {u = u} ed hg gv start = step u start ed hg
-reach-back {u = u} ed hg gv (step {a = x} {e = e} v r t w) =
+reach-back ed hg gv (step {e = e} v r t w) =
     either (gv .cases e v w) (λ (p, q). rw q start) (λ (p, q). step v (reach-back ed hg gv r) t q)
 
 module _ {n : ℕ} {edge : Rel} {f : ℕ} {h : List Equation} {a : List Bool} where
@@ -156,7 +137,7 @@ module _ {n : ℕ} {edge : Rel} {f : ℕ} {h : List Equation} {a : List Bool} wh
 
   -- the former holder found nothing and has u back; the next unknown is looked for behind u
   pub turn-next : {b b′ : List Bool} {k : List Equation} {g u w w′ : ℕ} → w ≡ suc u → Turn n edge f h a b w → edge f u ≡ true → held h g u ≡ true
-      → Given h k f u → Nothing n edge g b b′ k → NextIn n edge f (suc u) h b′ w′ → Turn n edge f h a b′ w′
+      → Given (held h) (held k) f u → Nothing n edge g b b′ k → NextIn n edge f (suc u) h b′ w′ → Turn n edge f h a b′ w′
   turn-next {b} {b′} {k} {g} {u} {w} {w′} wu t ed hg gv r x = record {
     more = λ e m. r .more e (t .more e m);
     reached = λ e m. either (r .reached e m) (λ o. t .reached e o) (λ o. inr (reach-back ed hg gv o));

@@ -5,3 +5,4 @@ pub mod Holders
 pub mod Looking
 pub mod Members
 pub mod Left
+pub mod Choosing

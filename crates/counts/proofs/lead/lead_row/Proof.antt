@@ -34,7 +34,9 @@ element-copy-out-count : tie.Need-element-copy-out-count Inv-loop μ-loop
 element-copy-out-count c = search needs
 
 loop-holds : tie.Need-loop-holds Inv-loop μ-loop
-loop-holds c = (omega arith, replicate-tab {A = ℕ} limit 0 ∙ fill-start limit (codes (c .before .before .args .table .now) (c .before .before .args .counts .now) (c .before .before .args .tops .now) (c .before .place .result)) nothing)
+loop-holds c =
+    let a = c .before .before .args in
+    (omega arith, replicate-tab {A = ℕ} limit 0 ∙ fill-start limit (codes (a .table .now) (a .counts .now) (a .tops .now) (c .before .place .result)) nothing)
 
 at-requires : tie.Need-at-requires Inv-loop μ-loop
 at-requires c κs = search needs
@@ -78,7 +80,8 @@ returns : tie.Need-returns Inv-loop μ-loop
 returns c =
     let s = c .before .before .before .before in
     let all : c .before .loop .u ≡ s .args .n = omega arith in
-    (rw all at (c .before .loop .inv .1)) ∙ rw (c .before .before .before .place .ensures) (tab-ext limit _ _ (λ u h. test (ltb u (s .args .n)) (λ t. rw t) (λ t. rw t)))
+    (rw all at (c .before .loop .inv .1))
+    ∙ rw (c .before .before .before .place .ensures) (tab-ext limit _ _ (λ u h. test (ltb u (s .args .n)) (λ t. rw t) (λ t. rw t)))
 
 pub lead-row-spec : {M : Type 1} → statement M
 lead-row-spec =

@@ -34,7 +34,9 @@ leading-end n t counts tops = tab-ext limit (upto n (rowAt n t counts tops) zero
     (λ e h. test (ltb e n) (λ s. rw s) (λ s. rw s (replicate-tab {A = ℕ} limit 0)))
 
 loop-holds : tie.Need-loop-holds Inv-loop μ-loop
-loop-holds c = (omega arith, replicate-tab limit (replicate limit 0) ∙ fill-start limit (rowAt (c .args .n) (c .args .table .now) (c .args .counts .now) (c .args .tops .now)) zeros)
+loop-holds c =
+    let a = c .args in
+    (omega arith, replicate-tab limit (replicate limit 0) ∙ fill-start limit (rowAt (a .n) (a .table .now) (a .counts .now) (a .tops .now)) zeros)
 
 at-requires : tie.Need-at-requires Inv-loop μ-loop
 at-requires c κs = search needs

@@ -17,13 +17,18 @@ leading-rows-requires c κs =
 search-requires : tie.Need-search-requires
 search-requires c κs =
     let s = c .before .before .before .before in
-    (s .pre .1, rw (c .before .leading-rows .ensures, c .before .before .before .tops .ensures) (asking (s .args .n) (s .args .table .now) (s .args .counts .now) (s .pre .0 .within) limit (s .args .asker .0 - 1) (s .args .holders) (s .pre .0 .within) (omega arith) (omega arith) (s .pre .3)))
+    let a = s .args in
+    let w = s .pre .0 .within in
+    let ask = asking (a .n) (a .table .now) (a .counts .now) w limit (a .asker .0 - 1) (a .holders) w (omega arith) (omega arith) (s .pre .3) in
+    (s .pre .1, rw (c .before .leading-rows .ensures, c .before .before .before .tops .ensures) ask)
 
 returns : tie.Need-returns
 returns c =
     let s = c .before .before .before .before .before in
-    let a = asking (s .args .n) (s .args .table .now) (s .args .counts .now) (s .pre .0 .within) (s .args .n) (s .args .asker .0 - 1) (s .args .holders) (omega arith) (s .pre .0 .within) (omega arith) (s .pre .3) in
-    (rw (c .before .before .leading-rows .ensures, c .before .before .before .before .tops .ensures) at (c .search .ensures)) (s .args .n) a
+    let a = s .args in
+    let w = s .pre .0 .within in
+    let ask = asking (a .n) (a .table .now) (a .counts .now) w (a .n) (a .asker .0 - 1) (a .holders) (omega arith) w (omega arith) (s .pre .3) in
+    (rw (c .before .before .leading-rows .ensures, c .before .before .before .before .tops .ensures) at (c .search .ensures)) (a .n) ask
 
 pub attempt-spec : {M : Type 1} → statement M
 attempt-spec = tie.close (tie.spec tops-requires leading-rows-requires search-requires returns)

@@ -26,10 +26,11 @@ returns c =
     let s = c .before .before .before .before .before .before in
     let l = c .before .before .before .before .before .loop in
     let r = c .before .before .before .attempt in
-    let n = s .args .n in
-    let t = s .args .table .now in
-    let next : s .args .asker .0 - 1 + 1 ≡ s .args .asker .0 = omega arith in
-    rw next at (found n t (l .counts) (s .pre .0 .within) (s .args .asker .0 - 1) (s .args .holders) (r .result .holders) (l .inv) (r .ensures .found (c .before .if1 .taken) .0))
+    let a = s .args in
+    let f = a .asker .0 - 1 in
+    let next : a .asker .0 - 1 + 1 ≡ a .asker .0 = omega arith in
+    let got = r .ensures .found (c .before .if1 .taken) .0 in
+    rw next at (found (a .n) (a .table .now) (l .counts) (s .pre .0 .within) f (a .holders) (r .result .holders) (l .inv) got)
 
 raised-requires : tie.Need-raised-requires Inv-loop μ-loop
 raised-requires c κs =
@@ -42,16 +43,20 @@ loop-less c =
     let s = c .before .before .before .before .before .before .before .before .before in
     let l = c .before .before .before .before .before .before .before .before .loop in
     let r = c .before .before .before .before .before .before .attempt in
-    rw (c .raised .ensures) (nearer-in (s .args .n) (s .args .table .now) (s .pre .0) (s .args .asker .0 - 1) (l .counts) (s .args .holders) (r .result .asked) (omega arith) (l .inv)
-    (r .ensures .nothing (c .before .before .before .before .if1 .left) .1))
+    let a = s .args in
+    let none = r .ensures .nothing (c .before .before .before .before .if1 .left) .1 in
+    rw (c .raised .ensures)
+    (nearer-in (a .n) (a .table .now) (s .pre .0) (a .asker .0 - 1) (l .counts) (a .holders) (r .result .asked) (omega arith) (l .inv) none)
 
 loop-again : tie.Need-loop-again Inv-loop μ-loop
 loop-again c =
     let s = c .before .before .before .before .before .before .before .before .before in
     let l = c .before .before .before .before .before .before .before .before .loop in
     let r = c .before .before .before .before .before .before .attempt in
-    rw (c .raised .ensures) (raise-in (s .args .n) (s .args .table .now) (s .pre .0) (s .args .asker .0 - 1) (l .counts) (s .args .holders) (r .result .asked) (omega arith) (l .inv)
-    (r .ensures .nothing (c .before .before .before .before .if1 .left) .1))
+    let a = s .args in
+    let none = r .ensures .nothing (c .before .before .before .before .if1 .left) .1 in
+    rw (c .raised .ensures)
+    (raise-in (a .n) (a .table .now) (s .pre .0) (a .asker .0 - 1) (l .counts) (a .holders) (r .result .asked) (omega arith) (l .inv) none)
 
 pub settle-spec : {M : Type 1} → statement M
 settle-spec =

@@ -12,9 +12,10 @@ use borrow.Fn.PlainCycle.{Measures, is, falls, and}
 use Rattle.laws.specs.Marks.{marked, falses}
 use Rattle.laws.proofs.Marks.{falses-fall}
 use Rattle.table.specs.Model.{limit, occursAt}
-use Rattle.pairing.specs.Holders.{holder, Asking, Searched, Nothing}
+use Rattle.pairing.specs.Holders.{holder, held, Asking, Searched, Nothing}
 use Rattle.pairing.specs.Looking.{AllHeld}
-use Rattle.pairing.proofs.Searching.{Turn, Wanted, wanted, giving, restored, takes, asks, moves, all-held, held-by, turn-start, turn-next, ends, fewer, turn-asked, Given, has-found, has-nothing}
+use Rattle.pairing.proofs.Give.{Given}
+use Rattle.pairing.proofs.Searching.{Turn, Wanted, wanted, giving, restored, takes, asks, moves, all-held, held-by, turn-start, turn-next, ends, fewer, turn-asked, has-found, has-nothing}
 use Rattle.pairing.proofs.search.search.Reads as search′
 use Rattle.pairing.proofs.search.search.Kinds as search-kinds
 use Rattle.pairing.proofs.search.+search.Lts-search as search-lts
@@ -101,11 +102,12 @@ asked-at t c =
 
 -- the wanted unknown, given to the asker
 given-at : (t : ℕ) (c : Wanting t) → Given
-    (c .before .before .before .before .before .before .before .before .before .args .holders)
+    (held (c .before .before .before .before .before .before .before .before .before .args .holders))
+    (held
     (set
     (c .before .before .before .before .before .before .before .before .before .args .holders)
     (c .place3 .result)
-    (c .before .before .before .before .before .before .before .before .before .args .asker))
+    (c .before .before .before .before .before .before .before .before .before .args .asker)))
     (c .before .before .before .before .before .before .before .before .before .args .asker .0 - 1)
     (c .place3 .result)
 given-at t c =

@@ -64,5 +64,8 @@ lowest-has zero p t = absurd (true≢false (sym t))
 lowest-has (suc n) p t = test (any n p) (λ a. rw a (lowest-has n p a)) (λ f. rw f (either (or-cases (p n) (any n p) t) (λ h. h) (λ a. clash a f)))
 
 -- so a full pairing is a choice: for each equation the lowest unknown that it has
+pub full-chosen : {m n : ℕ} {edge M : Rel} → Full m n edge M → (e : ℕ) → e < m → M e (lowest n (M e)) ≡ true
+full-chosen {n = n} {M = M} f e h = given (f .every e h) (λ (u, t). lowest-has n (M e) (has-pair (f .ok) e u t))
+
 pub full-partners : {m n : ℕ} {edge M : Rel} → Full m n edge M → Partners m n edge (λ e. lowest n (M e))
-full-partners {n = n} {M = M} f = partners-of (f .ok) (λ e h. given (f .every e h) (λ (u, t). lowest-has n (M e) (has-pair (f .ok) e u t)))
+full-partners f = partners-of (f .ok) (full-chosen f)
