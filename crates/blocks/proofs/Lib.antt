@@ -2,3 +2,5 @@
 pub mod Reach
 pub mod Placed
 pub mod Number
+pub mod Rank
+pub mod Listed

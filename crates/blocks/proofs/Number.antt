@@ -216,3 +216,10 @@ module _ {m : ℕ} {T : Rel} (C : Closed m T) {num : ℕ → ℕ} {k : ℕ} (N :
     ready = ready-next;
     lowest = lowest-next;
   }
+
+  -- fewer are left without a number
+  pub numbering-falls : count m (λ f. eqb (next f) 0) < count m (λ f. eqb (num f) 0)
+  numbering-falls = count-misses m m (λ f. eqb (next f) 0) (λ f. eqb (num f) 0) (λ i j. i ≡ j) (λ i j x p q. p ∙ sym q)
+      (λ f l t. (f, l, refl, let z = eqb-true (next f) 0 t in let y = old f l (omega arith) in eq-eqb (num f) 0 (omega arith)))
+      e h (eq-eqb (num e) 0 (w .out))
+      (λ f l t q. let z = eqb-true (next f) 0 t in let y = inside f l (rw q (both-self C e h)) .1 in absurd (omega arith))
