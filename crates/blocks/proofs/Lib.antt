@@ -1,6 +1,6 @@
 -- The laws of blocks.
-pub mod Reach
+pub mod Ways
 pub mod Placed
-pub mod Number
+pub mod Numbering
 pub mod Rank
 pub mod Listed

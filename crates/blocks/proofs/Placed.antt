@@ -12,7 +12,7 @@ use Rattle.pairing.specs.Pairing.{Rel}
 use Rattle.blocks.specs.Blocks.{Reaches, Shares, Stands, Ready, before, Placed}
 use Rattle.blocks.specs.Blocks.Reaches.{here, step}
 use Rattle.blocks.specs.Steps.{Within}
-use Rattle.blocks.proofs.Reach.{onward, shares-self, shares-sym, shares-trans}
+use Rattle.blocks.proofs.Ways.{onward, shares-self, shares-sym, shares-trans}
 
 -- the numbers rise along the places
 module _ {m : ℕ} {R : Rel} {o b : ℕ → ℕ} {k : ℕ} (P : Placed m R o b k) where

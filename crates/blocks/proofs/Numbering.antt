@@ -16,8 +16,8 @@ use Rattle.laws.proofs.Inject.{count-misses}
 use Rattle.pairing.specs.Pairing.{Rel}
 use Rattle.blocks.specs.Blocks.{Reaches, Shares}
 use Rattle.blocks.specs.Blocks.Reaches.{here, step}
-use Rattle.blocks.specs.Steps.{Within, Closed, ways, both, keeps, waits, Lowest, renumbered, Numbering, Numbered}
-use Rattle.blocks.proofs.Reach.{onward, ways-closed, ways-sound, ways-complete}
+use Rattle.blocks.specs.Steps.{Within, Closed, ways, both, keepsAt, waitsAt, Lowest, renumbered, Numbering, Numbered}
+use Rattle.blocks.proofs.Ways.{onward, ways-closed, ways-sound, ways-complete}
 
 not-so : (b : Bool) → not b ≡ true → b ≡ false
 not-so b h = test b (λ t. clash {b = not b} h (rw t refl)) (λ f. f)
@@ -53,12 +53,12 @@ module _ {m : ℕ} {T : Rel} (C : Closed m T) where
       out : num e ≡ 0
       rest : (g : ℕ) → T e g ≡ true → T g e ≡ false → 1 ≤ num g
 
-    waiting : (e : ℕ) → waits m T num e ≡ true → Waits e
+    waiting : (e : ℕ) → waitsAt m T num e ≡ true → Waits e
     waiting e t =
-        let k = not-so (any m (keeps T num e)) (and-right (eqb (num e) 0) (not (any m (keeps T num e))) t) in record {
-          out = eqb-true (num e) 0 (and-left (eqb (num e) 0) (not (any m (keeps T num e))) t);
+        let k = not-so (any m (keepsAt T num e)) (and-right (eqb (num e) 0) (not (any m (keepsAt T num e))) t) in record {
+          out = eqb-true (num e) 0 (and-left (eqb (num e) 0) (not (any m (keepsAt T num e))) t);
           rest = λ g r f. test (eqb (num g) 0)
-              (λ z. clash (and-both r (and-both (so-not f) z)) (any-none (keeps T num e) k g (C .within .col e g r)))
+              (λ z. clash (and-both r (and-both (so-not f) z)) (any-none (keepsAt T num e) k g (C .within .col e g r)))
               (λ z. omega (arith, tests));
         }
 
@@ -70,8 +70,8 @@ module _ {m : ℕ} {T : Rel} (C : Closed m T) where
       apart : T by e ≡ false
       out : num by ≡ 0
 
-    keeper : (e : ℕ) → any m (keeps T num e) ≡ true → Keeper e
-    keeper e t = given (any-where {n = m} (keeps T num e) t) (λ (g, l, k).
+    keeper : (e : ℕ) → any m (keepsAt T num e) ≡ true → Keeper e
+    keeper e t = given (any-where {n = m} (keepsAt T num e) t) (λ (g, l, k).
         let r = and-right (T e g) (not (T g e) && eqb (num g) 0) k in record {
           by = g;
           equation = l;
@@ -80,21 +80,21 @@ module _ {m : ℕ} {T : Rel} (C : Closed m T) where
           out = eqb-true (num g) 0 (and-right (not (T g e)) (eqb (num g) 0) r);
         })
 
-    does-wait : (e : ℕ) → Waits e → waits m T num e ≡ true
-    does-wait e w = and-both (eq-eqb (num e) 0 (w .out)) (test (any m (keeps T num e))
+    does-wait : (e : ℕ) → Waits e → waitsAt m T num e ≡ true
+    does-wait e w = and-both (eq-eqb (num e) 0 (w .out)) (test (any m (keepsAt T num e))
         (λ t. let k = keeper e t in let z = k .out in let r = w .rest (k .by) (k .reached) (k .apart) in absurd (omega arith))
         (λ f. so-not f))
 
-    some-waits : (n e : ℕ) → count m (T e) < n → e < m → num e ≡ 0 → (x : ℕ) × (x < m) × (waits m T num x ≡ true)
+    some-waits : (n e : ℕ) → count m (T e) < n → e < m → num e ≡ 0 → (x : ℕ) × (x < m) × (waitsAt m T num x ≡ true)
     some-waits zero e l h z = absurd (omega arith)
-    some-waits (suc n) e l h z = test (any m (keeps T num e))
+    some-waits (suc n) e l h z = test (any m (keepsAt T num e))
         (λ t. let k = keeper e t in
         let c = keeps-less e (k .by) h (k .reached) (k .apart) in
         some-waits n (k .by) (omega arith) (k .equation) (k .out))
         (λ f. (e, h, and-both (eq-eqb (num e) 0 z) (so-not f)))
 
     -- where nobody waits everybody stands
-    pub all-stand : ((e : ℕ) → e < m → waits m T num e ≡ false) → (e : ℕ) → e < m → 1 ≤ num e
+    pub all-stand : ((e : ℕ) → e < m → waitsAt m T num e ≡ false) → (e : ℕ) → e < m → 1 ≤ num e
     all-stand none e h = test (eqb (num e) 0)
         (λ t. given (some-waits (suc (count m (T e))) e (omega arith) h (eqb-true (num e) 0 t)) (λ (x, l, w). clash w (none x l)))
         (λ t. omega (arith, tests))
