@@ -4,3 +4,4 @@ pub mod Placed
 pub mod Numbering
 pub mod Rank
 pub mod Listed
+pub mod Codes
