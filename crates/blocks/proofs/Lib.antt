@@ -5,3 +5,4 @@ pub mod Numbering
 pub mod Rank
 pub mod Listed
 pub mod Codes
+pub mod Tables
