@@ -6,11 +6,11 @@ use mathlib.Core.Logic.{_⊎_, inl, inr}
 use Prim.Native.Nat.{ℕ, zero, suc, _+_, _<_, _≤_}
 use native.Mathlib.Omega.{arith}
 use lib.Dec.{ltb, leb, eqb}
-use borrow.Author.Tests.{eqb-true, eqb-false, eq-eqb}
+use borrow.Author.Tests.{eqb-true, eqb-false, eq-eqb, ne-eqb}
 use Rattle.laws.specs.Count.{bit, count, any}
 use Rattle.laws.specs.Tab.{pick}
-use Rattle.laws.proofs.Tests.{test, tests, either, given, clash, not-true, and-left, and-right, and-both}
-use Rattle.laws.proofs.Search.{any-where, any-none}
+use Rattle.laws.proofs.Tests.{test, tests, either, given, clash, true≢false, not-true, and-left, and-right, and-both}
+use Rattle.laws.proofs.Search.{any-here, any-where, any-none}
 use Rattle.laws.proofs.Sum.{bit-true, bit-false}
 use Rattle.laws.proofs.Inject.{count-misses}
 use Rattle.pairing.specs.Pairing.{Rel}
@@ -98,6 +98,17 @@ module _ {m : ℕ} {T : Rel} (C : Closed m T) where
     all-stand none e h = test (eqb (num e) 0)
         (λ t. given (some-waits (suc (count m (T e))) e (omega arith) h (eqb-true (num e) 0 t)) (λ (x, l, w). clash w (none x l)))
         (λ t. omega (arith, tests))
+
+-- waiting, as the loop over all that may keep e finds it out
+module _ (m : ℕ) (T : Rel) (num : ℕ → ℕ) (e : ℕ) where
+  pub stands-already : (num e ≡ 0 → ⊥) → false ≡ waitsAt m T num e
+  stands-already ne = rw (ne-eqb (num e) 0 ne)
+
+  pub is-kept : (g : ℕ) → g < m → keepsAt T num e g ≡ true → false ≡ waitsAt m T num e
+  is-kept g h t = test (eqb (num e) 0) (λ z. rw (z, any-here {n = m} (keepsAt T num e) g h t)) (λ z. rw z)
+
+  pub none-keeps : num e ≡ 0 → ((g : ℕ) → g < m → keepsAt T num e g ≡ false) → true ≡ waitsAt m T num e
+  none-keeps z none = rw (eq-eqb (num e) 0 z) (sym (so-not (not-true (λ t. given (any-where {n = m} (keepsAt T num e) t) (λ (g, h, k). absurd (true≢false (sym k ∙ none g h)))))))
 
 -- While something does not stand some block is ready: S says what stands.
 pub some-ready : {m : ℕ} {R : Rel} → Within m R → (S : ℕ → Bool) (e : ℕ) → e < m → S e ≡ false
