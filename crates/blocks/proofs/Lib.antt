@@ -6,3 +6,6 @@ pub mod Rank
 pub mod Listed
 pub mod Codes
 pub mod Tables
+pub mod Listings
+pub mod ReachTables
+pub mod Solved

@@ -144,6 +144,9 @@ pub record Alike (R S : Rel) : Type 0 where
 alike-self : {R : Rel} → Alike R R
 alike-self = record { there = λ r. r; back = λ r. r }
 
+pub alike-trans : {R S T : Rel} → Alike R S → Alike S T → Alike R T
+alike-trans A B = record { there = λ r. B .there (A .there r); back = λ r. A .back (B .back r) }
+
 shares-there : {R S : Rel} {e f : ℕ} → Alike R S → Shares R e f → Shares S e f
 shares-there A s = record { there = A .there (s .there); back = A .there (s .back) }
 

@@ -13,9 +13,16 @@ use Rattle.laws.specs.Tab.{tab, pick, upto}
 use Rattle.laws.proofs.Tests.{test, tests}
 use Rattle.laws.proofs.Tab.{length-tab, getD-tab, is-tab, tab-ext, upto-below, upto-from, replicate-tab, fill-step, fill-end}
 use Rattle.table.specs.Model.{limit, codeAt, occursAt, square}
+use Rattle.table.proofs.Model.{square-at}
 use Rattle.pairing.specs.Pairing.{Rel}
 use Rattle.blocks.specs.Blocks.{needsAt}
-use Rattle.blocks.specs.Steps.{atOnce}
+use Rattle.blocks.specs.Steps.{atOnce, either, throughAt, throughCode}
+
+-- a list of one value alone has it at each place, and beyond
+pub always : {A : Type 0} (n i : ℕ) (a : A) → getD (replicate n a) i a ≡ a
+always zero i a = refl
+always (suc n) zero a = refl
+always (suc n) (suc i) a = always n i a
 
 -- a loop that fills one place after another: a turn, and the end
 pub fill-next : {A : Type 0} (n i : ℕ) (f g : ℕ → A) (l : List A) (v : A) → l ≡ tab n (upto i f g) → v ≡ f i → i < n
@@ -30,6 +37,31 @@ pub fill-rest : {A : Type 0} (n i : ℕ) (f g : ℕ → A) → ((k : ℕ) → i 
 fill-rest n i f g rest = tab-ext n (upto i f g) f
     (λ k b. test (ltb k i) (λ t. upto-below i f g k (ltb-true k i t))
     (λ t. upto-from i f g k (ltb-false k i t) ∙ sym (rest k (ltb-false k i t))))
+
+-- a row left as it is, or joined with another
+module _ (row other : List ℕ) (k : ℕ) where
+  abbrev pub stepped : ℕ → ℕ
+  stepped g = pick (eqb (getD row k 0) 0) (getD row g 0) (either (getD row g 0) (getD other g 0))
+
+  pub row-left : length row ≡ limit → getD row k 0 ≡ 0 → row ≡ tab limit stepped
+  row-left n z = is-tab row 0 limit stepped n (λ g b. rw (eq-eqb (getD row k 0) 0 z))
+
+  pub row-joined : {r : List ℕ} → (getD row k 0 ≡ 0 → ⊥) → r ≡ tab limit (λ g. either (getD row g 0) (getD other g 0)) → r ≡ tab limit stepped
+  row-joined ne q = q ∙ tab-ext limit (λ g. either (getD row g 0) (getD other g 0)) stepped (λ g b. rw (ne-eqb (getD row k 0) 0 ne))
+
+-- codes 1 and 0 joined are codes 1 and 0
+pub through-bits : (T : Rel) (t : List (List ℕ)) (k : ℕ) → t ≡ square (λ e g. bit (T e g)) → k < limit
+    → square (throughCode t k) ≡ square (λ e g. bit (throughAt k T e g))
+through-bits T t k p l = tab-ext limit (λ e. tab limit (throughCode t k e)) (λ e. tab limit (λ g. bit (throughAt k T e g)))
+    (λ e h. tab-ext limit (throughCode t k e) (λ g. bit (throughAt k T e g)) (λ g b. at-each e g h b))
+  where
+    code : (e g : ℕ) → e < limit → g < limit → codeAt t e g ≡ bit (T e g)
+    code e g h b = rw p (square-at (λ e g. bit (T e g)) e g h b)
+
+    at-each : (e g : ℕ) → e < limit → g < limit → throughCode t k e g ≡ bit (throughAt k T e g)
+    at-each e g h b = rw (code e k h l, code e g h b, code k g l b)
+        (test (T e k) (λ x. test (T e g) (λ y. test (T k g) (λ z. rw (x, y, z)) (λ z. rw (x, y, z))) (λ y. test (T k g) (λ z. rw (x, y, z)) (λ z. rw (x, y, z))))
+        (λ x. test (T e g) (λ y. rw (x, y)) (λ y. rw (x, y))))
 
 -- the needs, row by row
 module _ (m : ℕ) (leading : Rel) (partner : ℕ → ℕ) where

@@ -2,12 +2,14 @@
 use mathlib.Core.Path.{_≡_}
 use mathlib.Core.Bool.{Bool, true, false, not, _&&_, _||_}
 use mathlib.Core.List.{List}
-use Prim.Native.Nat.{ℕ, zero, suc, _<_, _≤_}
+use Prim.Native.Nat.{ℕ, zero, suc, _+_, _<_, _≤_}
 use lib.Dec.{ltb, eqb}
 use Rattle.laws.specs.Count.{count, any}
 use Rattle.laws.specs.Tab.{pick}
 use Rattle.table.specs.Model.{codeAt}
+use Rattle.table.specs.declared.number.Equation.{Equation}
 use Rattle.pairing.specs.Pairing.{Rel}
+use Rattle.blocks.specs.Handed.{at, equationNumber}
 
 -- only equations are in relation
 pub record Within (m : ℕ) (R : Rel) : Type 0 where
@@ -63,6 +65,13 @@ earlierAt num f e = pick (eqb (num f) (num e)) (ltb f e) (ltb (num f) (num e))
 -- the place of e: how many stand before it
 abbrev pub placeOf : ℕ → (ℕ → ℕ) → ℕ → ℕ
 placeOf m num e = count m (λ f. earlierAt num f e)
+
+-- the equations below e stand at their places, with their numbers, and beyond the last equation there is nothing
+pub record Listed (m : ℕ) (num : ℕ → ℕ) (order : List Equation) (block : List ℕ) (e : ℕ) : Type 0 where
+  pub equation : (f : ℕ) → f < e → equationNumber order (placeOf m num f) ≡ f + 1
+  pub number : (f : ℕ) → f < e → at block (placeOf m num f) ≡ num f
+  pub no-equation : (i : ℕ) → m ≤ i → equationNumber order i ≡ 0
+  pub no-block : (i : ℕ) → m ≤ i → at block i ≡ 0
 
 -- numbers 1 to k given so far, as the plain statement has it, by equations instead of places
 pub record Numbering (m : ℕ) (T : Rel) (num : ℕ → ℕ) (k : ℕ) : Type 0 where
