@@ -45,8 +45,13 @@ module _ {m : ℕ} {R : Rel} {o b o′ b′ : ℕ → ℕ} {k k′ : ℕ} (P : P
   -- the second has the first's equation of place i there or later
   later : (i : ℕ) → i < m → Agree o b o′ b′ i → (j : ℕ) × (j < m) × (o′ j ≡ o i) × (i ≤ j)
   later i h A = given (Q .every (o i) (P .within i h))
-      (λ (j, l, q). (j, l, q, test (ltb j i) (λ t. let z = P .once j i l h (A .order j (omega (arith, tests)) ∙ q) in absurd (omega (arith, tests)))
-      (λ t. omega (arith, tests))))
+      (λ (j, l, q). (
+        j,
+        l,
+        q,
+        test (ltb j i) (λ t. let z = P .once j i l h (A .order j (omega (arith, tests)) ∙ q) in absurd (omega (arith, tests)))
+            (λ t. omega (arith, tests)),
+      ))
 
   -- place i goes on with a block in the first: so it does in the second, and the second has no higher equation there
   goes-on : (i : ℕ) → i < m → Agree o b o′ b′ i → b i ≡ before b i → (b′ i ≡ before b′ i) × (o′ i ≤ o i)
@@ -59,9 +64,11 @@ module _ {m : ℕ} {R : Rel} {o b o′ b′ : ℕ → ℕ} {k k′ : ℕ} (P : P
           let s′ : Shares R (o′ j) (o′ i) = rw (q, ← (A .order i (omega arith))) s in
           let z = Q .shared j i l (omega arith) s′ in
           let u = number-rises Q (suc i) j x l in
-          let v = number-rises Q i (suc i) (omega arith) h in
-          (omega arith, test (eqb j (suc i)) (λ t. let w : j ≡ suc i = eqb-true j (suc i) t in let y : o′ (suc i) ≡ o (suc i) = rw w at q in omega arith)
-          (λ t. let y = Q .ascends (suc i) j (omega (arith, tests)) l (omega arith) in omega arith))
+          let v = number-rises Q i (suc i) (omega arith) h in (
+            omega arith,
+            test (eqb j (suc i)) (λ t. let w : j ≡ suc i = eqb-true j (suc i) t in let y : o′ (suc i) ≡ o (suc i) = rw w at q in omega arith)
+                (λ t. let y = Q .ascends (suc i) j (omega (arith, tests)) l (omega arith) in omega arith),
+          )
 
   -- place i starts a block in both: the first's equation is no higher than the second's, which is ready too
   starts : (i : ℕ) → i < m → Agree o b o′ b′ i → b i ≡ suc (before b i) → b′ i ≡ b i → o i ≤ o′ i

@@ -26,7 +26,12 @@ fn need(leading: &[[u8; LIMIT]; LIMIT], f: usize, g: usize, partner: Unknown) ->
 }
 
 // What the equation at place f needs: 1 at those, 0 elsewhere.
-fn need_row(leading: &[[u8; LIMIT]; LIMIT], equations: usize, partners: [Unknown; LIMIT], f: usize) -> [u8; LIMIT]
+fn need_row(
+    leading: &[[u8; LIMIT]; LIMIT],
+    equations: usize,
+    partners: [Unknown; LIMIT],
+    f: usize,
+) -> [u8; LIMIT]
     requires { ⌜ Partnered equations partners × (f < equations) ⌝ }
     ensures { λ r. ⌜ r ≡ tab limit (λ g. bit (needsAt equations (occursAt (now (leading .entry))) (partnerAt partners) f g)) ⌝ }
 {
@@ -40,7 +45,11 @@ fn need_row(leading: &[[u8; LIMIT]; LIMIT], equations: usize, partners: [Unknown
 }
 
 // The needs as a table: 1 where the row's equation needs the column's, 0 elsewhere.
-pub fn needs(leading: &[[u8; LIMIT]; LIMIT], equations: usize, partners: [Unknown; LIMIT]) -> [[u8; LIMIT]; LIMIT]
+pub fn needs(
+    leading: &[[u8; LIMIT]; LIMIT],
+    equations: usize,
+    partners: [Unknown; LIMIT],
+) -> [[u8; LIMIT]; LIMIT]
     requires { ⌜ Partnered equations partners ⌝ }
     ensures { λ r. ⌜ r ≡ square (λ f g. bit (needsAt equations (occursAt (now (leading .entry))) (partnerAt partners) f g)) ⌝ }
 {
