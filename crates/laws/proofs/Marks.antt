@@ -1,17 +1,17 @@
 -- Laws of marks: what setting one changes.
-use mathlib.Core.Path.{_≡_, sym, _∙_}
+use mathlib.Core.Path.{_≡_, refl, sym, _∙_}
 use mathlib.Core.Bool.{Bool, true, false, not}
 use mathlib.Core.List.{List, [], _∷_}
 use mathlib.Core.Logic.{_⊎_, inl, inr}
 use Prim.Native.Nat.{ℕ, zero, suc, _+_, _<_, _≤_}
 use native.Mathlib.Omega.{arith}
 use lib.Dec.{eqb}
-use lib.ListN.{length, getD, set}
+use lib.ListN.{length, getD, set, length-set}
 use lib.Seq.{getD-set-same, getD-set-other}
 use borrow.Author.Tests.{eqb-true, eqb-false}
 use Rattle.laws.specs.Count.{bit}
 use Rattle.laws.specs.Marks.{marked, falses}
-use Rattle.laws.proofs.Tests.{test, clash, true≢false}
+use Rattle.laws.proofs.Tests.{test, either, true≢false}
 
 -- what is marked lies within the list
 pub marked-within : (l : List Bool) (i : ℕ) → marked l i ≡ true → i < length l
@@ -39,3 +39,27 @@ pub mark-falses : (l : List Bool) (i : ℕ) → i < length l → marked l i ≡ 
 mark-falses [] i h f = absurd (omega arith)
 mark-falses (b ∷ l) zero h f = rw f (omega arith)
 mark-falses (b ∷ l) (suc i) h f = let r = mark-falses l i (omega arith) f in omega arith
+
+-- the more is marked, the fewer are not
+pub falses-fewer : (a b : List Bool) → length a ≡ length b → ((i : ℕ) → marked a i ≡ true → marked b i ≡ true) → falses b ≤ falses a
+falses-fewer [] [] e h = omega arith
+falses-fewer [] (y ∷ b) e h = absurd (omega arith)
+falses-fewer (x ∷ a) [] e h = absurd (omega arith)
+falses-fewer (x ∷ a) (y ∷ b) e h =
+    let r = falses-fewer a b (omega arith) (λ i t. h (suc i) t) in
+    let l = not-fewer x y (h 0) in
+    omega arith
+  where
+    not-fewer : (x y : Bool) → (x ≡ true → y ≡ true) → bit (not y) ≤ bit (not x)
+    not-fewer true y g = rw (g refl) (omega arith)
+    not-fewer false true g = omega arith
+    not-fewer false false g = omega arith
+
+-- and fewer still where one was marked anew
+pub falses-fall : (a b : List Bool) → length a ≡ length b → ((i : ℕ) → marked a i ≡ true → marked b i ≡ true) → (k : ℕ) → marked a k ≡ false → marked b k ≡ true
+    → falses b < falses a
+falses-fall a b e h k f t =
+    let l = marked-within b k t in
+    let one = mark-falses a k (omega arith) f in
+    let rest = falses-fewer (set a k true) b (length-set a k true ∙ e) (λ i m. either (mark-only a k i m) (λ q. rw q t) (h i)) in
+    omega arith

@@ -3,6 +3,7 @@ use mathlib.Core.Path.{_≡_, refl, sym}
 use mathlib.Core.Bool.{Bool, true, false, not, _||_, _&&_}
 use Prim.Native.Nat.{ℕ, zero, suc, _+_, _*_, _<_, _≤_}
 use native.Mathlib.Nat.{suc-mul}
+use native.Mathlib.Numerals.{add-one}
 use native.Mathlib.Omega.{arith}
 use lib.Dec.{eqb}
 use borrow.Author.Tests.{eqb-true, eqb-false, eq-eqb, ne-eqb}
@@ -56,3 +57,10 @@ sum-without (suc n) f j h = test (eqb j n) (λ t. at-last (eqb-true j n t)) (λ 
 
 pub sum-at-most : (n : ℕ) (f : ℕ → ℕ) (j : ℕ) → j < n → f j ≤ sum n f
 sum-at-most n f j h = let e = sum-without n f j h in omega arith
+
+-- one more place: it counts or it does not
+pub count-yes : (n : ℕ) (p : ℕ → Bool) → p n ≡ true → count (n + 1) p ≡ count n p + 1
+count-yes n p t = rw (add-one n) (rw t (omega arith))
+
+pub count-no : (n : ℕ) (p : ℕ → Bool) → p n ≡ false → count (n + 1) p ≡ count n p
+count-no n p f = rw (add-one n) (rw f (omega arith))

@@ -42,6 +42,12 @@ module _ {A : Type 0} where
   replicate-tab zero a = refl
   replicate-tab (suc n) a = ap (λ l. a ∷ l) (replicate-tab n a)
 
+  -- copies of the default, wherever they are read
+  pub copies-at : (n : ℕ) (a : A) (i : ℕ) → getD (replicate n a) i a ≡ a
+  copies-at zero a i = refl
+  copies-at (suc n) a zero = refl
+  copies-at (suc n) a (suc i) = copies-at n a i
+
   pub upto-below : (i : ℕ) (f g : ℕ → A) (k : ℕ) → k < i → upto i f g k ≡ f k
   upto-below i f g k h = rw (lt-ltb k i h)
 

@@ -2,3 +2,7 @@
 pub mod Pairing
 pub mod First
 pub mod Holders
+pub mod Looking
+pub mod Members
+pub mod Left
+pub mod Choosing
