@@ -9,3 +9,4 @@ pub mod Tables
 pub mod Listings
 pub mod ReachTables
 pub mod Solved
+pub mod FirstPartners

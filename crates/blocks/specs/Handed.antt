@@ -3,29 +3,27 @@ use mathlib.Core.Path.{_≡_}
 use mathlib.Core.Bool.{true}
 use mathlib.Core.List.{List}
 use Prim.Native.Nat.{ℕ, _-_, _<_, _≤_}
-use lib.ListN.{length, getD}
+use lib.ListN.{getD}
 use Rattle.laws.specs.Count.{bit}
 use Rattle.table.specs.Model.{limit, Numbered, occursAt, square}
 use Rattle.table.specs.declared.number.Equation.{Equation}
 use Rattle.table.specs.declared.number.Unknown.{Unknown}
 use Rattle.pairing.specs.Pairing.{Rel}
+use Rattle.pairing.specs.First.{partnerOf}
 use Rattle.blocks.specs.Blocks.{Reaches, Placed}
 
 -- what stands at a place, and 0 beyond
 abbrev pub at : List ℕ → ℕ → ℕ
 at l i = getD l i 0
 
--- the number of the partner of the equation at place e, and its place
-abbrev pub partnerNumber : List Unknown → ℕ → ℕ
-partnerNumber p e = getD p e (record { 0 = 0 }) .0
-
+-- the place of the partner of the equation at place e
 abbrev pub partnerAt : List Unknown → ℕ → ℕ
-partnerAt p e = partnerNumber p e - 1
+partnerAt p e = partnerOf p e - 1
 
 -- within the limit, and each equation has a partner
 pub record Partnered (m : ℕ) (p : List Unknown) : Type 0 where
   pub few : m ≤ limit
-  pub each : (e : ℕ) → e < m → Numbered (partnerNumber p e)
+  pub each : (e : ℕ) → e < m → Numbered (partnerOf p e)
 
 -- a table of codes 1 and 0
 abbrev pub Bits : List (List ℕ) → Type 0
