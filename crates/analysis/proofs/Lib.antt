@@ -8,3 +8,5 @@ pub mod FirstBy
 pub mod PlacedBy
 pub mod Checked
 pub mod Strips
+pub mod Put
+pub mod Refusal

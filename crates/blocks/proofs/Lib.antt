@@ -1,4 +1,12 @@
 -- The laws of blocks.
-pub mod Reach
+pub mod Ways
 pub mod Placed
-pub mod Number
+pub mod Numbering
+pub mod Rank
+pub mod Listed
+pub mod Codes
+pub mod Tables
+pub mod Listings
+pub mod ReachTables
+pub mod Solved
+pub mod FirstPartners

@@ -12,7 +12,7 @@ use Rattle.pairing.specs.Pairing.{Rel}
 use Rattle.blocks.specs.Blocks.{Reaches, Shares, Stands, Ready, before, Placed}
 use Rattle.blocks.specs.Blocks.Reaches.{here, step}
 use Rattle.blocks.specs.Steps.{Within}
-use Rattle.blocks.proofs.Reach.{onward, shares-self, shares-sym, shares-trans}
+use Rattle.blocks.proofs.Ways.{onward, shares-self, shares-sym, shares-trans}
 
 -- the numbers rise along the places
 module _ {m : ℕ} {R : Rel} {o b : ℕ → ℕ} {k : ℕ} (P : Placed m R o b k) where
@@ -45,8 +45,13 @@ module _ {m : ℕ} {R : Rel} {o b o′ b′ : ℕ → ℕ} {k k′ : ℕ} (P : P
   -- the second has the first's equation of place i there or later
   later : (i : ℕ) → i < m → Agree o b o′ b′ i → (j : ℕ) × (j < m) × (o′ j ≡ o i) × (i ≤ j)
   later i h A = given (Q .every (o i) (P .within i h))
-      (λ (j, l, q). (j, l, q, test (ltb j i) (λ t. let z = P .once j i l h (A .order j (omega (arith, tests)) ∙ q) in absurd (omega (arith, tests)))
-      (λ t. omega (arith, tests))))
+      (λ (j, l, q). (
+        j,
+        l,
+        q,
+        test (ltb j i) (λ t. let z = P .once j i l h (A .order j (omega (arith, tests)) ∙ q) in absurd (omega (arith, tests)))
+            (λ t. omega (arith, tests)),
+      ))
 
   -- place i goes on with a block in the first: so it does in the second, and the second has no higher equation there
   goes-on : (i : ℕ) → i < m → Agree o b o′ b′ i → b i ≡ before b i → (b′ i ≡ before b′ i) × (o′ i ≤ o i)
@@ -59,9 +64,11 @@ module _ {m : ℕ} {R : Rel} {o b o′ b′ : ℕ → ℕ} {k k′ : ℕ} (P : P
           let s′ : Shares R (o′ j) (o′ i) = rw (q, ← (A .order i (omega arith))) s in
           let z = Q .shared j i l (omega arith) s′ in
           let u = number-rises Q (suc i) j x l in
-          let v = number-rises Q i (suc i) (omega arith) h in
-          (omega arith, test (eqb j (suc i)) (λ t. let w : j ≡ suc i = eqb-true j (suc i) t in let y : o′ (suc i) ≡ o (suc i) = rw w at q in omega arith)
-          (λ t. let y = Q .ascends (suc i) j (omega (arith, tests)) l (omega arith) in omega arith))
+          let v = number-rises Q i (suc i) (omega arith) h in (
+            omega arith,
+            test (eqb j (suc i)) (λ t. let w : j ≡ suc i = eqb-true j (suc i) t in let y : o′ (suc i) ≡ o (suc i) = rw w at q in omega arith)
+                (λ t. let y = Q .ascends (suc i) j (omega (arith, tests)) l (omega arith) in omega arith),
+          )
 
   -- place i starts a block in both: the first's equation is no higher than the second's, which is ready too
   starts : (i : ℕ) → i < m → Agree o b o′ b′ i → b i ≡ suc (before b i) → b′ i ≡ b i → o i ≤ o′ i
@@ -143,6 +150,9 @@ pub record Alike (R S : Rel) : Type 0 where
 
 alike-self : {R : Rel} → Alike R R
 alike-self = record { there = λ r. r; back = λ r. r }
+
+pub alike-trans : {R S T : Rel} → Alike R S → Alike S T → Alike R T
+alike-trans A B = record { there = λ r. B .there (A .there r); back = λ r. A .back (B .back r) }
 
 shares-there : {R S : Rel} {e f : ℕ} → Alike R S → Shares R e f → Shares S e f
 shares-there A s = record { there = A .there (s .there); back = A .there (s .back) }

@@ -2,22 +2,27 @@
 -- Giving the lowest ready block the next number keeps what the plain statement says.
 use mathlib.Core.Path.{_≡_, refl, sym, _∙_}
 use mathlib.Core.Bool.{Bool, true, false, not, _&&_, _||_}
+use mathlib.Core.List.{List}
 use mathlib.Core.Logic.{_⊎_, inl, inr}
 use Prim.Native.Nat.{ℕ, zero, suc, _+_, _<_, _≤_}
+use native.Mathlib.Numerals.{add-one}
 use native.Mathlib.Omega.{arith}
 use lib.Dec.{ltb, leb, eqb}
-use borrow.Author.Tests.{eqb-true, eqb-false, eq-eqb}
+use borrow.Author.Tests.{eqb-true, eqb-false, eq-eqb, ne-eqb}
 use Rattle.laws.specs.Count.{bit, count, any}
-use Rattle.laws.specs.Tab.{pick}
-use Rattle.laws.proofs.Tests.{test, tests, either, given, clash, not-true, and-left, and-right, and-both}
-use Rattle.laws.proofs.Search.{any-where, any-none}
-use Rattle.laws.proofs.Sum.{bit-true, bit-false}
+use Rattle.laws.specs.Tab.{tab, pick}
+use Rattle.laws.proofs.Tests.{test, tests, either, given, clash, true≢false, not-true, and-left, and-right, and-both}
+use Rattle.laws.proofs.Search.{any-here, any-where, any-none}
+use Rattle.laws.proofs.Sum.{bit-true, bit-false, sum-bound}
 use Rattle.laws.proofs.Inject.{count-misses}
+use Rattle.laws.proofs.Tab.{getD-tab}
+use Rattle.table.specs.Model.{limit}
 use Rattle.pairing.specs.Pairing.{Rel}
 use Rattle.blocks.specs.Blocks.{Reaches, Shares}
 use Rattle.blocks.specs.Blocks.Reaches.{here, step}
-use Rattle.blocks.specs.Steps.{Within, Closed, ways, both, keeps, waits, Lowest, renumbered, Numbering, Numbered}
-use Rattle.blocks.proofs.Reach.{onward, ways-closed, ways-sound, ways-complete}
+use Rattle.blocks.specs.Handed.{at}
+use Rattle.blocks.specs.Steps.{Within, Closed, ways, both, keepsAt, waitsAt, Lowest, renumbered, Numbering, Numbered}
+use Rattle.blocks.proofs.Ways.{onward, ways-closed, ways-sound, ways-complete}
 
 not-so : (b : Bool) → not b ≡ true → b ≡ false
 not-so b h = test b (λ t. clash {b = not b} h (rw t refl)) (λ f. f)
@@ -53,12 +58,12 @@ module _ {m : ℕ} {T : Rel} (C : Closed m T) where
       out : num e ≡ 0
       rest : (g : ℕ) → T e g ≡ true → T g e ≡ false → 1 ≤ num g
 
-    waiting : (e : ℕ) → waits m T num e ≡ true → Waits e
+    waiting : (e : ℕ) → waitsAt m T num e ≡ true → Waits e
     waiting e t =
-        let k = not-so (any m (keeps T num e)) (and-right (eqb (num e) 0) (not (any m (keeps T num e))) t) in record {
-          out = eqb-true (num e) 0 (and-left (eqb (num e) 0) (not (any m (keeps T num e))) t);
+        let k = not-so (any m (keepsAt T num e)) (and-right (eqb (num e) 0) (not (any m (keepsAt T num e))) t) in record {
+          out = eqb-true (num e) 0 (and-left (eqb (num e) 0) (not (any m (keepsAt T num e))) t);
           rest = λ g r f. test (eqb (num g) 0)
-              (λ z. clash (and-both r (and-both (so-not f) z)) (any-none (keeps T num e) k g (C .within .col e g r)))
+              (λ z. clash (and-both r (and-both (so-not f) z)) (any-none (keepsAt T num e) k g (C .within .col e g r)))
               (λ z. omega (arith, tests));
         }
 
@@ -70,8 +75,8 @@ module _ {m : ℕ} {T : Rel} (C : Closed m T) where
       apart : T by e ≡ false
       out : num by ≡ 0
 
-    keeper : (e : ℕ) → any m (keeps T num e) ≡ true → Keeper e
-    keeper e t = given (any-where {n = m} (keeps T num e) t) (λ (g, l, k).
+    keeper : (e : ℕ) → any m (keepsAt T num e) ≡ true → Keeper e
+    keeper e t = given (any-where {n = m} (keepsAt T num e) t) (λ (g, l, k).
         let r = and-right (T e g) (not (T g e) && eqb (num g) 0) k in record {
           by = g;
           equation = l;
@@ -80,24 +85,64 @@ module _ {m : ℕ} {T : Rel} (C : Closed m T) where
           out = eqb-true (num g) 0 (and-right (not (T g e)) (eqb (num g) 0) r);
         })
 
-    does-wait : (e : ℕ) → Waits e → waits m T num e ≡ true
-    does-wait e w = and-both (eq-eqb (num e) 0 (w .out)) (test (any m (keeps T num e))
+    does-wait : (e : ℕ) → Waits e → waitsAt m T num e ≡ true
+    does-wait e w = and-both (eq-eqb (num e) 0 (w .out)) (test (any m (keepsAt T num e))
         (λ t. let k = keeper e t in let z = k .out in let r = w .rest (k .by) (k .reached) (k .apart) in absurd (omega arith))
         (λ f. so-not f))
 
-    some-waits : (n e : ℕ) → count m (T e) < n → e < m → num e ≡ 0 → (x : ℕ) × (x < m) × (waits m T num x ≡ true)
+    some-waits : (n e : ℕ) → count m (T e) < n → e < m → num e ≡ 0 → (x : ℕ) × (x < m) × (waitsAt m T num x ≡ true)
     some-waits zero e l h z = absurd (omega arith)
-    some-waits (suc n) e l h z = test (any m (keeps T num e))
+    some-waits (suc n) e l h z = test (any m (keepsAt T num e))
         (λ t. let k = keeper e t in
         let c = keeps-less e (k .by) h (k .reached) (k .apart) in
         some-waits n (k .by) (omega arith) (k .equation) (k .out))
         (λ f. (e, h, and-both (eq-eqb (num e) 0 z) (so-not f)))
 
     -- where nobody waits everybody stands
-    pub all-stand : ((e : ℕ) → e < m → waits m T num e ≡ false) → (e : ℕ) → e < m → 1 ≤ num e
+    pub all-stand : ((e : ℕ) → e < m → waitsAt m T num e ≡ false) → (e : ℕ) → e < m → 1 ≤ num e
     all-stand none e h = test (eqb (num e) 0)
         (λ t. given (some-waits (suc (count m (T e))) e (omega arith) h (eqb-true (num e) 0 t)) (λ (x, l, w). clash w (none x l)))
         (λ t. omega (arith, tests))
+
+-- waiting, as the loop over all that may keep e finds it out
+module _ (m : ℕ) (T : Rel) (num : ℕ → ℕ) (e : ℕ) where
+  pub stands-already : (num e ≡ 0 → ⊥) → false ≡ waitsAt m T num e
+  stands-already ne = rw (ne-eqb (num e) 0 ne)
+
+  pub is-kept : (g : ℕ) → g < m → keepsAt T num e g ≡ true → false ≡ waitsAt m T num e
+  is-kept g h t = test (eqb (num e) 0) (λ z. rw (z, any-here {n = m} (keepsAt T num e) g h t)) (λ z. rw z)
+
+  pub none-keeps : num e ≡ 0 → ((g : ℕ) → g < m → keepsAt T num e g ≡ false) → true ≡ waitsAt m T num e
+  none-keeps z none = rw (eq-eqb (num e) 0 z) (sym (so-not (not-true (λ t. given (any-where {n = m} (keepsAt T num e) t) (λ (g, h, k). absurd (true≢false (sym k ∙ none g h)))))))
+
+-- the search for the lowest that waits: the equations below e are seen, and best is the lowest of them that waits, or m
+pub record Seeking (m : ℕ) (T : Rel) (num : ℕ → ℕ) (best e : ℕ) : Type 0 where
+  pub most : best ≤ m
+  pub seen : e ≤ m
+  pub found : best < m → waitsAt m T num best ≡ true
+  pub none : (f : ℕ) → f < e → f < best → waitsAt m T num f ≡ false
+
+module _ {m : ℕ} {T : Rel} {num : ℕ → ℕ} where
+  pub seek-start : Seeking m T num m 0
+  seek-start = record { most = omega arith; seen = omega arith; found = λ h. absurd (omega arith); none = λ f h l. absurd (omega arith) }
+
+  module _ {best e : ℕ} (S : Seeking m T num best e) (h : e < m) where
+    pub seek-found : e < best → waitsAt m T num e ≡ true → Seeking m T num e (e + 1)
+    seek-found l t = record { most = omega arith; seen = omega arith; found = λ _. t; none = λ f _ u. S .none f u (omega arith) }
+
+    pub seek-kept : waitsAt m T num e ≡ false → Seeking m T num best (e + 1)
+    seek-kept t = record {
+      most = S .most;
+      seen = omega arith;
+      found = S .found;
+      none = λ f u l. test (eqb f e) (λ q. rw (eqb-true f e q) t) (λ q. S .none f (omega (arith, tests)) l);
+    }
+
+    pub seek-past : best ≤ e → Seeking m T num best (e + 1)
+    seek-past l = record { most = S .most; seen = omega arith; found = S .found; none = λ f _ u. S .none f (omega arith) u }
+
+  pub seek-end : {best e : ℕ} → Seeking m T num best e → m ≤ e → Lowest m T num best
+  seek-end S l = let b = S .most in record { found = S .found; none = λ f u. S .none f (omega arith) u; most = S .most }
 
 -- While something does not stand some block is ready: S says what stands.
 pub some-ready : {m : ℕ} {R : Rel} → Within m R → (S : ℕ → Bool) (e : ℕ) → e < m → S e ≡ false
@@ -118,6 +163,10 @@ some-ready {m} {R} W S e h z =
         let r = onward (s .there) (step g t here) in
         let n = a .rest g (ways-complete m R W l r) (not-true (λ b. d (record { there = r; back = ways-sound m R W m g x b }))) in
         test (S g) (λ b. b) (λ b. let u = bit-false b in absurd (omega arith))
+
+-- how many have no number
+abbrev pub unplaced : ℕ → (ℕ → ℕ) → ℕ
+unplaced m num = count m (λ f. eqb (num f) 0)
 
 -- nobody has a number at the start
 pub numbering-start : {m : ℕ} {T : Rel} {num : ℕ → ℕ} → ((e : ℕ) → e < m → num e ≡ 0) → Numbering m T num 0
@@ -216,3 +265,38 @@ module _ {m : ℕ} {T : Rel} (C : Closed m T) {num : ℕ → ℕ} {k : ℕ} (N :
     ready = ready-next;
     lowest = lowest-next;
   }
+
+  -- fewer are left without a number
+  pub numbering-falls : unplaced m next < unplaced m num
+  numbering-falls = count-misses m m (λ f. eqb (next f) 0) (λ f. eqb (num f) 0) (λ i j. i ≡ j) (λ i j x p q. p ∙ sym q)
+      (λ f l t. (f, l, refl, let z = eqb-true (next f) 0 t in let y = old f l (omega arith) in eq-eqb (num f) 0 (omega arith)))
+      e h (eq-eqb (num e) 0 (w .out))
+      (λ f l t q. let z = eqb-true (next f) 0 t in let y = inside f l (rw q (both-self C e h)) .1 in absurd (omega arith))
+
+-- the loop: k blocks stand, and e is the lowest that waits
+pub record Counting (m : ℕ) (T : Rel) (num : ℕ → ℕ) (k e : ℕ) : Type 0 where
+  pub numbering : Numbering m T num k
+  pub lowest : Lowest m T num e
+  pub room : k + unplaced m num ≤ m
+
+pub counting-start : {m : ℕ} {T : Rel} {num : ℕ → ℕ} {e : ℕ} → ((f : ℕ) → num f ≡ 0) → Lowest m T num e → Counting m T num 0 e
+counting-start {m} {num = num} none L =
+    let b = sum-bound m 1 (λ f. bit (eqb (num f) 0)) (λ f _. rw (none f) (omega arith)) in
+    record { numbering = numbering-start (λ f _. none f); lowest = L; room = omega arith }
+
+module _ {m : ℕ} {T : Rel} (C : Closed m T) (few : m ≤ limit) {num : ℕ → ℕ} {k e : ℕ} (S : Counting m T num k e) (h : e < m)
+    {l : List ℕ} (is : l ≡ tab limit (renumbered T num e (k + 1))) where
+  each : (f : ℕ) → f < m → at l f ≡ renumbered T num e (suc k) f
+  each f b = rw (is, add-one k) (getD-tab limit (renumbered T num e (suc k)) f 0 (omega arith))
+
+  pub counting-falls : unplaced m (at l) < unplaced m num
+  counting-falls = numbering-falls C (S .numbering) h (S .lowest) each
+
+  pub counting-step : {e′ : ℕ} → Lowest m T (at l) e′ → Counting m T (at l) (k + 1) e′
+  counting-step L =
+      let r = S .room in
+      let d = counting-falls in
+      record { numbering = rw (add-one k) (numbering-step C (S .numbering) h (S .lowest) each); lowest = L; room = omega arith }
+
+pub counting-end : {m : ℕ} {T : Rel} {num : ℕ → ℕ} {k e : ℕ} → Closed m T → Counting m T num k e → m ≤ e → Numbered m T num k
+counting-end {num = num} C S l = record { numbering = S .numbering; all = all-stand C num (λ f h. S .lowest .none f (omega arith)) }

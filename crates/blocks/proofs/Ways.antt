@@ -10,7 +10,7 @@ use Rattle.laws.proofs.Tests.{test, tests, either, given, clash, and-left, and-
 use Rattle.pairing.specs.Pairing.{Rel}
 use Rattle.blocks.specs.Blocks.{needsAt, Reaches, Shares}
 use Rattle.blocks.specs.Blocks.Reaches.{here, step}
-use Rattle.blocks.specs.Steps.{Within, Closed, atOnce, through, ways}
+use Rattle.blocks.specs.Steps.{Within, Closed, atOnce, throughAt, ways}
 
 -- Reach is transitive, and sharing a block is an equivalence.
 pub onward : {R : Rel} {e f g : ℕ} → Reaches R e f → Reaches R f g → Reaches R e g
@@ -27,15 +27,15 @@ pub shares-trans : {R : Rel} {e f g : ℕ} → Shares R e f → Shares R f g →
 shares-trans s t = record { there = onward (s .there) (t .there); back = onward (t .back) (s .back) }
 
 -- what a step of `through` gives, and what gives it
-pub through-cases : {A : Type 0} (k : ℕ) (T : Rel) (e g : ℕ) → through k T e g ≡ true
+pub through-cases : {A : Type 0} (k : ℕ) (T : Rel) (e g : ℕ) → throughAt k T e g ≡ true
     → (T e g ≡ true → A) → (T e k ≡ true → T k g ≡ true → A) → A
 through-cases k T e g t a b =
     either (or-cases (T e g) (T e k && T k g) t) a (λ w. b (and-left (T e k) (T k g) w) (and-right (T e k) (T k g) w))
 
-through-old : (k : ℕ) (T : Rel) (e g : ℕ) → T e g ≡ true → through k T e g ≡ true
+through-old : (k : ℕ) (T : Rel) (e g : ℕ) → T e g ≡ true → throughAt k T e g ≡ true
 through-old k T e g t = or-left (T e k && T k g) t
 
-through-new : (k : ℕ) (T : Rel) (e g : ℕ) → T e k ≡ true → T k g ≡ true → through k T e g ≡ true
+through-new : (k : ℕ) (T : Rel) (e g : ℕ) → T e k ≡ true → T k g ≡ true → throughAt k T e g ≡ true
 through-new k T e g s t = or-right (T e g) (and-both s t)
 
 module _ (m : ℕ) (R : Rel) (W : Within m R) where
@@ -74,10 +74,10 @@ module _ (m : ℕ) (R : Rel) (W : Within m R) where
       T : Rel
       T = ways m R k
 
-      at-k : through k T e k ≡ true → through k T k g ≡ true → through k T e g ≡ true
+      at-k : throughAt k T e k ≡ true → throughAt k T k g ≡ true → throughAt k T e g ≡ true
       at-k s t = through-new k T e g (through-cases k T e k s (λ a. a) (λ a b. a)) (through-cases k T k g t (λ a. a) (λ a b. b))
 
-      below : ((x y : ℕ) → T x f ≡ true → T f y ≡ true → T x y ≡ true) → through k T e g ≡ true
+      below : ((x y : ℕ) → T x f ≡ true → T f y ≡ true → T x y ≡ true) → throughAt k T e g ≡ true
       below meet = through-cases k T e f s
           (λ a. through-cases k T f g t (λ c. through-old k T e g (meet e g a c)) (λ c d. through-new k T e g (meet e k a c) d))
           (λ a b. through-cases k T f g t (λ c. through-new k T e g a (meet k g b c)) (λ c d. through-new k T e g a d))
