@@ -1,0 +1,3 @@
+-- The laws of the printed result.
+pub mod ListLaws
+pub mod TextLaws
