@@ -13,7 +13,7 @@ use Rattle.laws.proofs.Tests.{test, tests, given, clash, and-left, and-right, a
 use Rattle.laws.proofs.Inject.{onto}
 use Rattle.pairing.specs.Pairing.{Rel}
 use Rattle.pairing.specs.First.{Partners}
-use Rattle.pairing.proofs.First.{pairs-of, partners-full}
+use Rattle.pairing.proofs.Choice.{pairs-of, partners-full}
 use Rattle.counts.specs.Fit.{Fits, Least, largest, leading}
 use Rattle.counts.proofs.High.{largest-over}
 use Rattle.counts.proofs.Fit.{met}

@@ -14,7 +14,7 @@ use Rattle.pairing.specs.Pairing.{Rel}
 use Rattle.pairing.specs.First.{First}
 use Rattle.pairing.proofs.Sizes.{rank-one}
 use Rattle.pairing.proofs.Lists.{listed-one}
-use Rattle.pairing.proofs.First.{first-one}
+use Rattle.pairing.proofs.Choice.{first-one}
 use Rattle.counts.specs.Fit.{Least, leading, indexOf, freedomOf}
 use Rattle.counts.specs.Work.{numberAt}
 use Rattle.counts.proofs.Fit.{one-count, one-top}

@@ -2,4 +2,5 @@
 pub mod judge;
 pub mod number;
 pub mod singular;
+pub mod solvable;
 pub mod strip;
