@@ -11,3 +11,4 @@ pub mod Strips
 pub mod Put
 pub mod Refusal
 pub mod Solution
+pub mod Verdicts

@@ -138,8 +138,13 @@ module _ (n : ℕ) (t : List (List ℕ)) (counts tops : List ℕ) (partners : Li
     order = placesOf (take n (map equationNumber order));
     block = take n block;
     blocks = blocks;
-    sizes = (long counts lc, long tops lt, front-places n (map unknownNumber partners) partner-from-one,
-        front-places n (map equationNumber order) order-from-one, long block lb);
+    sizes = (
+      long counts lc,
+      long tops lt,
+      front-places n (map unknownNumber partners) partner-from-one,
+      front-places n (map equationNumber order) order-from-one,
+      long block lb,
+    );
     least = subst₂ (λ (c d : ℕ → ℕ). Least n n (occursAt t) (orderAt t) c d) counts-are tops-are (s .least);
     first = subst₃ (λ (c d p : ℕ → ℕ). First n n (lead c d) p) counts-are tops-are partner-is firsts;
     placed = subst₃ (λ (c d p : ℕ → ℕ). Placed n (needsAt n (lead c d) p) (numberAt (placesOf (take n (map equationNumber order)))) (numberAt (take n block)) blocks)

@@ -1,8 +1,8 @@
 -- What the code of this crate holds, in the terms of the definitions. Nothing here is needed to read what the analysis promises.
 use mathlib.Core.Path.{_≡_}
 use mathlib.Core.List.{List}
-use Prim.Native.Nat.{ℕ, _≤_}
-use Rattle.table.specs.Model.{limit, occursAt, orderAt}
+use Prim.Native.Nat.{ℕ, _<_, _≤_}
+use Rattle.table.specs.Model.{limit, topCode, codeAt, occursAt, orderAt}
 use Rattle.table.specs.declared.number.Equation.{Equation}
 use Rattle.table.specs.declared.number.Unknown.{Unknown}
 use Rattle.pairing.specs.First.{FirstIs}
@@ -16,6 +16,12 @@ unknownNumber u = u .0
 
 abbrev pub equationNumber : Equation → ℕ
 equationNumber e = e .0
+
+-- a table of E equations and U unknowns that was judged: within the limits, and no code above 4
+pub record Judged (E U : ℕ) (t : List (List ℕ)) : Type 0 where
+  pub equations : E ≤ limit
+  pub unknowns : U ≤ limit
+  pub codes : (e u : ℕ) → e < E → u < U → codeAt t e u ≤ topCode
 
 -- counts and tops, partners and solving order of a table of n equations, with 0 beyond the last, and the three figures
 pub record SolutionIs (n : ℕ) (t : List (List ℕ)) (counts tops : List ℕ) (partners : List Unknown) (order : List Equation) (block : List ℕ)

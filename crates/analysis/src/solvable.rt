@@ -92,5 +92,12 @@ pub fn solvable(rows: &[[u8; LIMIT]; LIMIT], n: usize, answer: &mut [u8]) -> u64
     let order = solution.order;
     let block = solution.block;
     write(&mut *answer, n, counts, tops, partners, order, block);
-    pack(0, 0, n as u8, solution.index, solution.freedom, solution.blocks)
+    pack(
+        0,
+        0,
+        n as u8,
+        solution.index,
+        solution.freedom,
+        solution.blocks,
+    )
 }
