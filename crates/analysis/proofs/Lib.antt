@@ -10,3 +10,5 @@ pub mod Checked
 pub mod Strips
 pub mod Put
 pub mod Refusal
+pub mod Solution
+pub mod Verdicts

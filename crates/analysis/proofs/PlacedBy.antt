@@ -156,8 +156,12 @@ is-placed n R W o b k t = record {
   ready = λ i h. ready-from n R W (at 0) o b (b i) (o i) (inside i h) (all-at (λ i. readyAt n R rows o b (b i) (o i)) (at 10) i h);
   lowest = λ i j h l q r. given (any-where {n = n} (λ h. eqb (b h) (b i) && leb (o h) (o j))
       (implies-at (all2-at (lowestAt n R rows o b) (at 11) i j h l) (and-both (le-leb (b i) (b j) q) (ready-to n R W (at 0) o b (b i) (o j) (inside j l) r))))
-      (λ (g, c, w). (g, c, eqb-true (b g) (b i) (and-left (eqb (b g) (b i)) (leb (o g) (o j)) w),
-      leb-true (o g) (o j) (and-right (eqb (b g) (b i)) (leb (o g) (o j)) w)));
+      (λ (g, c, w). (
+        g,
+        c,
+        eqb-true (b g) (b i) (and-left (eqb (b g) (b i)) (leb (o g) (o j)) w),
+        leb-true (o g) (o j) (and-right (eqb (b g) (b i)) (leb (o g) (o j)) w),
+      ));
 }
   where
     rows : List (List Bool)

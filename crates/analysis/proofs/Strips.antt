@@ -99,7 +99,7 @@ listing-add {p} {l} {at} {i} f t h =
     let c : at ≡ length (map suc m) = f .count ∙ sym (length-map m suc) in
     let w = members-within i p in
     let s : set (strip (map suc m)) (length (map suc m)) (suc i) ≡ strip (map suc m ++ suc i ∷ []) =
-        strip-add (map suc m) (suc i) (omega (arith, length-map m suc)) in
+    strip-add (map suc m) (suc i) (omega (arith, length-map m suc)) in
     record {
       is = rw (f .is, c, add-one i, members-yes i p t, map-append suc m (i ∷ [])) s;
       count = rw (add-one i, members-yes i p t) (omega (arith, f .count, length-append m (i ∷ [])));

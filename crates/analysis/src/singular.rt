@@ -1,8 +1,6 @@
-// The answer to a singular model.
-use crate::number::pack;
+// The strips of a singular model.
 use crate::strip::listed;
 use crate::strip::unused;
-use pairing::left::Left;
 use table::LIMIT;
 ghost use mathlib.Core.Path.{_≡_};
 ghost use mathlib.Core.List.{[], _++_, map};
@@ -11,10 +9,16 @@ ghost use lib.ListN.{length, drop};
 ghost use Rattle.laws.specs.Marks.{marked};
 ghost use Rattle.table.specs.Model.{limit};
 ghost use Rattle.pairing.specs.Members.{members};
-ghost use Rattle.analysis.specs.Outcome.{packed, strips, answerBytes};
+ghost use Rattle.analysis.specs.Outcome.{strips, answerBytes};
 
 // The surplus equations, the unfixed unknowns, and three strips with nothing in them.
-fn write(answer: &mut [u8], equations: usize, unknowns: usize, surplus: [bool; LIMIT], unfixed: [bool; LIMIT])
+pub fn write(
+    answer: &mut [u8],
+    equations: usize,
+    unknowns: usize,
+    surplus: [bool; LIMIT],
+    unfixed: [bool; LIMIT],
+)
     requires { ⌜ (answerBytes ≤ length (now answer)) × (equations ≤ limit) × (unknowns ≤ limit) ⌝ }
     ensures { λ r. ⌜ now (answer .exit) ≡ strips (map suc (members equations (marked surplus))) (map suc (members unknowns (marked unfixed))) [] [] [] ++ drop answerBytes (now (answer .entry)) ⌝ }
 {

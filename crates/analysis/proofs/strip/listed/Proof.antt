@@ -47,8 +47,11 @@ loop-less : tie.Need-loop-less Inv-loop μ-loop
 loop-less c = omega arith
 
 loop-again : tie.Need-loop-again Inv-loop μ-loop
-loop-again c = (omega arith, ⊎-elim (λ w. rw (w .1, w .2) (listing-add (c .before .before .loop .inv .1) (w .0 .taken) (omega arith)))
-    (λ w. rw (w .1, w .2) (listing-skip (c .before .before .loop .inv .1) (w .0 .left))) (c .if1 .came))
+loop-again c = (
+  omega arith,
+  ⊎-elim (λ w. rw (w .1, w .2) (listing-add (c .before .before .loop .inv .1) (w .0 .taken) (omega arith)))
+      (λ w. rw (w .1, w .2) (listing-skip (c .before .before .loop .inv .1) (w .0 .left))) (c .if1 .came),
+)
 
 same-length : tie.Need-same-length Inv-loop μ-loop
 same-length c = listing-long (c .before .loop .inv .1) ∙ sym (c .before .before .before .before .before .before .before .pre .0)
