@@ -1,3 +1,4 @@
 -- The laws of the printed result.
 pub mod ListLaws
 pub mod TextLaws
+pub mod Examining

@@ -4,7 +4,7 @@ use mathlib.Core.Bool.{Bool, true, false}
 use mathlib.Core.List.{List, [], _∷_, _++_}
 use Prim.Native.Nat.{ℕ, suc, _*_, _/_, _%_, _<_, _≤_}
 use Prim.Native.String.{String}
-use lib.Dec.{ltb, eqb}
+use lib.Dec.{leb, ltb, eqb}
 use lib.ListN.{length, getD, take, drop, replicate}
 use Rattle.laws.specs.Tab.{pick}
 use Rattle.laws.specs.Text.{bytes}
@@ -125,3 +125,10 @@ inputLimit = 16384
 pub record Printed (input text : List ℕ) : Type 0 where
   pub long : inputLimit < length input → text ≡ refusedText 19 0
   pub short : length input ≤ inputLimit → PrintedOf (judged input) text
+
+-- what the report hands back and leaves in a lent buffer: the text's length, and the text in the first bytes where there is room for all of it
+pub record Reported (input before : List ℕ) (handed : ℕ) (after : List ℕ) : Type 0 where
+  pub text : List ℕ
+  pub printed : Printed input text
+  pub size : handed ≡ length text
+  pub bytes : after ≡ pick (leb (length text) (length before)) (text ++ drop (length text) before) before
