@@ -2,3 +2,4 @@
 pub mod ListLaws
 pub mod TextLaws
 pub mod Examining
+pub mod Printing
