@@ -88,6 +88,9 @@ text-short {input} {text} p =
         (λ t. rw t (solvable-short name E (w .number) (w .answer) n (m .0 .high)))
         (λ t. rw t (singular-short name (w .number) (w .answer) n)))
 
+pub report-short : {input before after : List ℕ} {handed : ℕ} → Reported input before handed after → handed ≤ 1024
+report-short k = rw (k .size) (text-short (k .printed))
+
 -- ---- a good card's text is a verdict's
 
 -- its table is not refused by the analysis

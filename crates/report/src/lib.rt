@@ -20,6 +20,9 @@ ghost use Rattle.report.specs.Steps.{refusedAs, textOf, Analysed, Examin
 // The most bytes of input that are read as a card.
 pub const INPUT_LIMIT: usize = 16384;
 
+// No text is longer.
+pub const TEXT_LIMIT: usize = 1024;
+
 // The most codes of a table, and the five strips of an answer.
 const CELLS: usize = LIMIT * LIMIT;
 const ANSWER: usize = 5 * LIMIT;

@@ -1,5 +1,5 @@
 // The library that the screen links: the entries in the C calling form, where each slice is a pointer and a length. None asks anything of its caller,
-// and each always returns. Several numbers come back as one; `mudorder_analyse` stands in `analysis` and lies in the same archive.
+// and each always returns. Several numbers come back as one.
 use card::name_of;
 use card::read;
 use card::write;
@@ -7,6 +7,7 @@ use report::report;
 ghost use mathlib.Core.Path.{_≡_};
 ghost use Prim.Native.Nat.{_≤_};
 ghost use Rattle.card.specs.Card.{judged};
+ghost use Rattle.analysis.specs.Outcome.{Reply};
 ghost use Rattle.report.specs.Printed.{Reported};
 ghost use Rattle.screen.specs.Packed.{packed, nameNumber, ReadPacked, WritePacked};
 
@@ -65,4 +66,17 @@ pub extern "C" fn mudorder_report(card: &[u8], out: &mut [u8]) -> u64
     ensures { λ r. ⌜ Reported (now (card .entry)) (now (out .entry)) r (now (out .exit)) ⌝ }
 {
     report(card, out) as u64
+}
+
+// The analysis. An archive exports the functions of its own crate alone, so the entry of `analysis` is handed on under its own name.
+#[no_mangle]
+pub extern "C" fn mudorder_analyse(
+    equations: usize,
+    unknowns: usize,
+    table: &[u8],
+    answer: &mut [u8],
+) -> u64
+    ensures { λ r. ⌜ Reply equations unknowns (now (table .entry)) (now (answer .entry)) r (now (answer .exit)) ⌝ }
+{
+    analysis::mudorder_analyse(equations, unknowns, table, answer)
 }
