@@ -1,39 +1,42 @@
 -- Laws of what a card comes to: a refusal of its own, or what the analysis hands back for its table; and of the two ends of the report.
-use mathlib.Core.Path.{_≡_, refl, ap, sym, _∙_}
-use mathlib.Core.Bool.{Bool, true, false, _&&_}
-use mathlib.Core.List.{List, [], _∷_, _++_}
+use mathlib.Core.Path.{_≡_, refl, ap, _∙_}
+use mathlib.Core.Bool.{_&&_}
+use mathlib.Core.List.{List, [], _++_}
 use Prim.Native.Nat.{ℕ, _+_, _*_, _%_, _≤_, _<_}
 use native.Mathlib.Omega.{arith}
-use lib.Dec.{leb, ltb, eqb}
-use lib.ListN.{length, take, drop, replicate, length-replicate}
-use lib.Seq.{sets-eq, take-at, length-take-le}
+use lib.Dec.{leb, ltb}
+use lib.ListN.{length, take, drop, replicate}
+use lib.Seq.{sets-eq, take-at}
 use borrow.Author.Tests.{eq-eqb, ne-eqb, le-leb, lt-leb, leb-true, ltb-true}
-use Rattle.laws.specs.Tab.{pick}
 use Rattle.laws.proofs.Tests.{test, and-left, and-right}
-use Rattle.table.specs.Model.{limit, inLimits}
+use Rattle.table.specs.Model.{limit}
 use Rattle.table.proofs.Model.{limits}
-use Rattle.card.specs.Entry.{nameByte, every, goodName}
+use Rattle.card.specs.Entry.{nameByte, every}
 use Rattle.card.specs.Card.{Judged, refused, good, judged, readOf, nameOf}
-use Rattle.card.specs.Steps.{Laid, ReadDone, WriteGood}
+use Rattle.card.specs.Steps.{Laid, ReadDone}
 use Rattle.card.specs.declared.Reading.{Reading}
 use Rattle.card.proofs.ListLaws.{cells-within}
-use Rattle.card.proofs.WriteLaws.{laid-same, laid-nothing}
+use Rattle.card.proofs.WriteLaws.{laid-nothing}
 use Rattle.card.proofs.Readable.{good-card}
-use Rattle.card.proofs.Theorems.{ReadGood, read-good}
-use Rattle.analysis.specs.Outcome.{answerBytes}
+use Rattle.card.proofs.Theorems.{read-good}
 use Rattle.report.specs.Printed.{refusedText, solvableText, singularText, verdictText, PrintedOf, Printed, inputLimit, Reported}
 use Rattle.report.specs.Steps.{textOf, refusedAs, Analysed, Examined}
 use Rattle.report.specs.declared.Found.{Found}
 
--- a name that is asked for is short
+-- the name of a good card has 1 to 24 bytes, and a name that is asked for has no more
+pub name-length : (s name : List ℕ) (E U : ℕ) (t : List ℕ) → judged s ≡ good name E U t → (1 ≤ length name) × (length name ≤ 24)
+name-length s name E U t p =
+    let l = leb 1 (length name) in
+    let h = leb (length name) 24 in
+    let b = and-left (l && h) (every nameByte name) (good-card s name E U t p .fine .named) in
+    (leb-true 1 (length name) (and-left l h b), leb-true (length name) 24 (and-right l h b))
+
 pub name-short : (s : List ℕ) → length (nameOf (judged s)) ≤ 24
 name-short s = go (judged s) refl
   where
     go : (j : Judged) → judged s ≡ j → length (nameOf j) ≤ 24
     go (refused m at) p = omega arith
-    go (good name E U t) p =
-        let g = good-card s name E U t p .fine .named in
-        leb-true (length name) 24 (and-right (leb 1 (length name)) (leb (length name) 24) (and-left (leb 1 (length name) && leb (length name) 24) (every nameByte name) g))
+    go (good name E U t) p = name-length s name E U t p .1
 
 pub examined-long : (s : List ℕ) → inputLimit < length s → Examined s (refusedAs 19 0)
 examined-long s h = record { printed = record { long = λ _. refl; short = λ k. absurd (omega arith) }; within = omega arith }
@@ -43,7 +46,8 @@ module _ (s name : List ℕ) (E U : ℕ) (t : List ℕ) (p : judged s ≡ good n
   good-size : x * y ≤ limit * limit
   good-size = rw (e, u) (cells-within E U (good-card s name E U t p .fine .limits))
 
-  good-found : (after rest : List ℕ) {f : Found} → length s ≤ inputLimit → after ≡ t ++ rest → length t ≡ E * U → Analysed x y (take (x * y) after) f → Examined s f
+  good-found : (after rest : List ℕ) {f : Found} → length s ≤ inputLimit → after ≡ t ++ rest → length t ≡ E * U
+      → Analysed x y (take (x * y) after) f → Examined s f
   good-found after rest {f} h b l d =
       let m = limits E U (good-card s name E U t p .fine .limits) in
       let i = d .equations in
@@ -65,7 +69,7 @@ module _ {s after : List ℕ} {r : Reading} (h : length s ≤ inputLimit) (k : R
 
       go : (j : Judged) → judged s ≡ j → PrintedOf j (textOf (nameOf (judged s)) (refusedAs (r .number) (r .place)))
       go (refused m at) p =
-          let a : r ≡ readOf (length (replicate {A = ℕ} (limit * limit) 0)) (refused m at) = k .answer ∙ ap (readOf (length (replicate {A = ℕ} (limit * limit) 0))) p in
+          let a : r ≡ readOf (limit * limit) (refused m at) = k .answer ∙ ap (readOf (limit * limit)) p in
           text-is (nameOf (judged s)) ∙ ap (λ x. refusedText (x .number) (x .place)) a
       go (good name E U t) p =
           let a : r ≡ readOf (limit * limit) (good name E U t) = k .answer ∙ ap (readOf (limit * limit)) p in
@@ -82,10 +86,12 @@ module _ {s after : List ℕ} {r : Reading} (h : length s ≤ inputLimit) (k : R
     examined-good d =
         let g = read-good k z in
         let w = g .says in
-        good-found s (w .name) (w .E) (w .U) (w .t) (w .is) (g .equations) (g .unknowns) after (drop (w .E * w .U) (replicate (limit * limit) 0)) h (g .bytes) (g .sized) d
+        let rest = drop (w .E * w .U) (replicate {A = ℕ} (limit * limit) 0) in
+        good-found s (w .name) (w .E) (w .U) (w .t) (w .is) (g .equations) (g .unknowns) after rest h (g .bytes) (g .sized) d
 
 -- the text of what was found
-pub text-refused : (name : List ℕ) (f : Found) {a b : List ℕ} {next : ℕ} → (f .refused ≡ 0 → ⊥) → Laid a 0 (refusedText (f .refused) (f .place)) b next → Laid a 0 (textOf name f) b next
+pub text-refused : (name : List ℕ) (f : Found) {a b : List ℕ} {next : ℕ} → (f .refused ≡ 0 → ⊥)
+    → Laid a 0 (refusedText (f .refused) (f .place)) b next → Laid a 0 (textOf name f) b next
 text-refused name f n p = rw (ne-eqb (f .refused) 0 n) p
 
 pub text-solvable : (name : List ℕ) (f : Found) {a b : List ℕ} {next : ℕ} → f .refused ≡ 0 → f .number % 256 ≡ 0
@@ -98,7 +104,8 @@ text-singular name f z c p = rw (eq-eqb (f .refused) 0 z, ne-eqb (f .number % 25
 
 -- ---- the report's two ends: there is no room, and there is
 
-module _ (before : List ℕ) {s name l : List ℕ} {f : Found} {r : ℕ} (k : Examined s f) (e : name ≡ nameOf (judged s)) (m : Laid [] 0 (textOf name f) l r) where
+module _ (before : List ℕ) {s name l : List ℕ} {f : Found} {r : ℕ} (k : Examined s f) (e : name ≡ nameOf (judged s))
+    (m : Laid [] 0 (textOf name f) l r) where
   printed-is : Printed s (textOf name f)
   printed-is = rw e (k .printed)
 

@@ -3,3 +3,4 @@ pub mod ListLaws
 pub mod TextLaws
 pub mod Examining
 pub mod Printing
+pub mod Truth

@@ -1,6 +1,5 @@
 -- Document 01, "The printed result": the bytes that the program prints for the bytes of a card. Every line ends in LF.
 use mathlib.Core.Path.{_≡_}
-use mathlib.Core.Bool.{Bool, true, false}
 use mathlib.Core.List.{List, [], _∷_, _++_}
 use Prim.Native.Nat.{ℕ, suc, _*_, _/_, _%_, _<_, _≤_}
 use Prim.Native.String.{String}
@@ -48,6 +47,37 @@ splitOf j k = pick (eqb j k) comma semicolon
 abbrev pub blocksOf : List ℕ → List ℕ → List ℕ
 blocksOf order block = joined (λ i. splitOf (getD block i 0) (getD block (suc i) 0)) order
 
+-- ---- The three texts
+
+-- counts, tops, pairs (each equation's unknown), and the blocks: the equations in solving order with the block number of each place
+abbrev pub solvableLines : List ℕ → ℕ → ℕ → List ℕ → List ℕ → List ℕ → List ℕ → List ℕ → List ℕ
+solvableLines name index freedom counts tops pairs order block =
+    field "rig=" name
+    ++ (field "verdict=" (bytes "solvable")
+    ++ (field "index=" (dec index)
+    ++ (field "freedom=" (dec freedom)
+    ++ (field "counts=" (commas counts)
+    ++ (field "tops=" (commas tops)
+    ++ (field "pairs=" (commas pairs)
+    ++ field "blocks=" (blocksOf order block)))))))
+
+abbrev pub singularLines : List ℕ → ℕ → List ℕ → List ℕ → List ℕ
+singularLines name rank surplus unfixed =
+    field "rig=" name
+    ++ (field "verdict=" (bytes "singular")
+    ++ (field "rank=" (dec rank)
+    ++ (field "surplus=" (orNone surplus)
+    ++ field "unfixed=" (orNone unfixed))))
+
+-- the digits of a place: `dec` has four, a place up to five
+unfoldable pub placeDec : ℕ → List ℕ
+placeDec n =
+    pick (ltb n 10000) (dec n) (digitOf (n / 10000) ∷ digitOf (n / 1000) ∷ digitOf (n / 100) ∷ digitOf (n / 10) ∷ digitOf n ∷ [])
+
+-- "A refusal prints `refused=` and `place=`, a line each, and nothing else"
+unfoldable pub refusedText : ℕ → ℕ → List ℕ
+refusedText number place = field "refused=" (dec number) ++ field "place=" (placeDec place)
+
 -- ---- What the analysis handed back: the bytes of its number, and the strips of its answer
 
 abbrev pub codeIn : ℕ → ℕ
@@ -71,35 +101,13 @@ abbrev pub usedIn : List ℕ → List ℕ
 usedIn [] = []
 usedIn (x ∷ l) = pick (eqb x unused) [] (x ∷ usedIn l)
 
--- ---- The three texts
-
 unfoldable pub solvableText : List ℕ → ℕ → ℕ → List ℕ → List ℕ
 solvableText name n number answer =
-    field "rig=" name
-    ++ (field "verdict=" (bytes "solvable")
-    ++ (field "index=" (dec (indexIn number))
-    ++ (field "freedom=" (dec (freedomIn number))
-    ++ (field "counts=" (commas (stripIn 0 n answer))
-    ++ (field "tops=" (commas (stripIn 1 n answer))
-    ++ (field "pairs=" (commas (stripIn 2 n answer))
-    ++ field "blocks=" (blocksOf (stripIn 3 n answer) (stripIn 4 n answer))))))))
+    solvableLines name (indexIn number) (freedomIn number) (stripIn 0 n answer) (stripIn 1 n answer) (stripIn 2 n answer)
+    (stripIn 3 n answer) (stripIn 4 n answer)
 
 unfoldable pub singularText : List ℕ → ℕ → List ℕ → List ℕ
-singularText name number answer =
-    field "rig=" name
-    ++ (field "verdict=" (bytes "singular")
-    ++ (field "rank=" (dec (rankIn number))
-    ++ (field "surplus=" (orNone (usedIn (stripIn 0 limit answer)))
-    ++ field "unfixed=" (orNone (usedIn (stripIn 1 limit answer))))))
-
--- the digits of a place: `dec` has four, a place up to five
-unfoldable pub placeDec : ℕ → List ℕ
-placeDec n =
-    pick (ltb n 10000) (dec n) (digitOf (n / 10000) ∷ digitOf (n / 1000) ∷ digitOf (n / 100) ∷ digitOf (n / 10) ∷ digitOf n ∷ [])
-
--- "A refusal prints `refused=` and `place=`, a line each, and nothing else"
-unfoldable pub refusedText : ℕ → ℕ → List ℕ
-refusedText number place = field "refused=" (dec number) ++ field "place=" (placeDec place)
+singularText name number answer = singularLines name (rankIn number) (usedIn (stripIn 0 limit answer)) (usedIn (stripIn 1 limit answer))
 
 -- code 0 is solvable, any other verdict singular
 abbrev pub verdictText : List ℕ → ℕ → ℕ → List ℕ → List ℕ

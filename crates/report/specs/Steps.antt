@@ -6,14 +6,23 @@ use lib.Dec.{eqb}
 use lib.ListN.{replicate}
 use Rattle.laws.specs.Tab.{pick}
 use Rattle.table.specs.Model.{limit}
+use Rattle.card.specs.Text.{LF}
 use Rattle.card.specs.Card.{judged, nameOf}
 use Rattle.analysis.specs.Outcome.{answerBytes, Reply}
-use Rattle.report.specs.Printed.{field, commas, blocksOf, stripIn, verdictText, refusedText, Printed}
+use Rattle.report.specs.Printed.{field, commas, orNone, blocksOf, usedIn, stripIn, verdictText, refusedText, Printed}
 use Rattle.report.specs.declared.Found.{Found}
 
 -- the rig and the verdict
 abbrev pub headText : List ℕ → List ℕ → List ℕ
 headText name verdict = field "rig=" name ++ field "verdict=" verdict
+
+-- a key, the used places of a strip or `none`, and the line's end
+abbrev pub leftText : List ℕ → ℕ → List ℕ → List ℕ
+leftText key k answer = key ++ (orNone (usedIn (stripIn k limit answer)) ++ LF ∷ [])
+
+-- the blocks of n equations
+abbrev pub orderText : ℕ → List ℕ → List ℕ
+orderText n answer = field "blocks=" (blocksOf (stripIn 3 n answer) (stripIn 4 n answer))
 
 -- the five strips of a solvable model
 abbrev pub stripsText : ℕ → List ℕ → List ℕ
@@ -21,7 +30,7 @@ stripsText n answer =
     field "counts=" (commas (stripIn 0 n answer))
     ++ (field "tops=" (commas (stripIn 1 n answer))
     ++ (field "pairs=" (commas (stripIn 2 n answer))
-    ++ field "blocks=" (blocksOf (stripIn 3 n answer) (stripIn 4 n answer))))
+    ++ orderText n answer))
 
 -- the text of what was found
 abbrev pub textOf : List ℕ → Found → List ℕ

@@ -14,10 +14,10 @@ ghost use Prim.Native.Nat.{_+_, _*_, _/_, _%_, _^_, _≤_, _<_};
 ghost use lib.ListN.{length};
 ghost use Rattle.table.specs.Model.{limit};
 ghost use Rattle.analysis.specs.Outcome.{answerBytes};
-ghost use Rattle.card.specs.Text.{LF, dec};
+ghost use Rattle.card.specs.Text.{LF};
 ghost use Rattle.card.specs.Steps.{Laid};
-ghost use Rattle.report.specs.Printed.{field, commas, blocksOf, orNone, usedIn, stripIn, placeDec, refusedText, singularText, solvableText};
-ghost use Rattle.report.specs.Steps.{headText, stripsText};
+ghost use Rattle.report.specs.Printed.{commas, stripIn, placeDec, refusedText, singularText, solvableText};
+ghost use Rattle.report.specs.Steps.{headText, leftText, orderText, stripsText};
 
 // The first places of a strip; strips count from 0.
 fn strip(answer: &[u8], k: usize, n: usize) -> &[u8]
@@ -42,7 +42,7 @@ fn put_list(out: &mut [u8], at: usize, key: &[u8], answer: &[u8], k: usize, n: u
 // A key, the used places of a strip or `none`, and the line's end.
 fn put_left(out: &mut [u8], at: usize, key: &[u8], answer: &[u8], k: usize) -> usize
     requires { ⌜ (at + length (now key) ≤ 2 ^ 32) × (length (now answer) ≡ answerBytes) × (k ≤ 4) ⌝ }
-    ensures { λ r. ⌜ Laid (now (out .entry)) at (now (key .entry) ++ (orNone (usedIn (stripIn k limit (now (answer .entry)))) ++ LF ∷ [])) (now (out .exit)) r ⌝ }
+    ensures { λ r. ⌜ Laid (now (out .entry)) at (leftText (now (key .entry)) k (now (answer .entry))) (now (out .exit)) r ⌝ }
 {
     let list = put_all(out, at, key);
     let end = put_used(out, list, strip(answer, k, LIMIT));
@@ -52,7 +52,7 @@ fn put_left(out: &mut [u8], at: usize, key: &[u8], answer: &[u8], k: usize) -> u
 // The blocks, in solving order.
 fn put_order(out: &mut [u8], at: usize, answer: &[u8], n: usize) -> usize
     requires { ⌜ (at ≤ 2 ^ 32) × (length (now answer) ≡ answerBytes) × (n ≤ limit) ⌝ }
-    ensures { λ r. ⌜ Laid (now (out .entry)) at (field "blocks=" (blocksOf (stripIn 3 n (now (answer .entry))) (stripIn 4 n (now (answer .entry))))) (now (out .exit)) r ⌝ }
+    ensures { λ r. ⌜ Laid (now (out .entry)) at (orderText n (now (answer .entry))) (now (out .exit)) r ⌝ }
 {
     let list = put_all(out, at, b"blocks=");
     let end = put_blocks(out, list, strip(answer, 3, n), strip(answer, 4, n));

@@ -7,55 +7,64 @@ use native.Mathlib.Omega.{arith}
 use borrow.Author.Needs.{needs}
 use Rattle.report.proofs.examined.Statement.{statement}
 use Rattle.report.proofs.examined.Tie as tie
-use Rattle.report.proofs.examined.Reads as reads
-use Rattle.report.proofs.examined.Lts as lts
-use Rattle.card.proofs.read.Reads as read-reads
-use Rattle.report.proofs.analysed.Reads as analysed-reads
-use Rattle.report.proofs.refused.Reads as refused-reads
 
--- src/lib.rt:68:9
 refused-requires : tie.Need-refused-requires
 refused-requires c κs = search needs
 
--- src/lib.rt:68:9
 returns : tie.Need-returns
 returns c = rw (c .refused .ensures) (examined-long (c .before .before .before .args .card .now) (c .before .if1 .taken))
 
--- src/lib.rt:71:30
 slice-aggregate-read : tie.Need-slice-aggregate-read
 slice-aggregate-read c = search needs
 
--- src/lib.rt:71:9
 read-requires : tie.Need-read-requires
 read-requires c κs = search needs
 
--- src/lib.rt:73:9
 refused-requires-2 : tie.Need-refused-requires-2
 refused-requires-2 c κs = search needs
 
--- src/lib.rt:73:9
 returns-2 : tie.Need-returns-2
-returns-2 c = rw (c .refused2 .ensures) (examined-refused (c .before .before .before .before .before .before .if1 .left) (c .before .before .before .before .read .ensures) (c .before .if2 .taken))
+returns-2 c =
+    let after-if2 = c .before in
+    let after-read = after-if2 .before .before .before in
+    let after-if1 = after-read .before .before in
+    rw (c .refused2 .ensures) (examined-refused (after-if1 .if1 .left) (after-read .read .ensures) (after-if2 .if2 .taken))
 
--- src/lib.rt:75:16
 mul-size : tie.Need-mul-size
-mul-size c = let h = size-small (c .before .before .before .before .before .before .if1 .left) (c .before .before .before .before .read .ensures) (c .before .if2 .left) in record { fits = omega arith }
+mul-size c =
+    let after-if2 = c .before in
+    let after-read = after-if2 .before .before .before in
+    let after-if1 = after-read .before .before in
+    let h = size-small (after-if1 .if1 .left) (after-read .read .ensures) (after-if2 .if2 .left) in
+    record { fits = omega arith }
 
--- src/lib.rt:76:51
 array-share-prefix-table : tie.Need-array-share-prefix-table
-array-share-prefix-table c = omega (arith, size-small (c .before .before .before .before .before .before .if1 .left) (c .before .before .before .before .read .ensures) (c .before .if2 .left), c .before .before .before .before .read .kept .1 .0)
+array-share-prefix-table c =
+    let after-if2 = c .before in
+    let after-read = after-if2 .before .before .before in
+    let after-if1 = after-read .before .before in
+    omega (arith, size-small (after-if1 .if1 .left) (after-read .read .ensures) (after-if2 .if2 .left), after-read .read .kept .1 .0)
 
--- src/lib.rt:76:51
 slice-aggregate-analysed : tie.Need-slice-aggregate-analysed
-slice-aggregate-analysed c = sym (length-take-le (c .before .before .before .before .before .read .result .equations * c .before .before .before .before .before .read .result .unknowns) (c .before .before .before .before .before .read .last .1 .0) (omega (arith, size-small (c .before .before .before .before .before .before .before .if1 .left) (c .before .before .before .before .before .read .ensures) (c .before .before .if2 .left), c .before .before .before .before .before .read .kept .1 .0)))
+slice-aggregate-analysed c =
+    let after-if2 = c .before .before in
+    let after-read = after-if2 .before .before .before in
+    let after-if1 = after-read .before .before in
+    sym (length-take-le (after-read .read .result .equations * after-read .read .result .unknowns) (after-read .read .last .1 .0) (omega (
+      arith,
+      size-small (after-if1 .if1 .left) (after-read .read .ensures) (after-if2 .if2 .left),
+      after-read .read .kept .1 .0,
+    )))
 
--- src/lib.rt:76:5
 analysed-requires : tie.Need-analysed-requires
 analysed-requires c κs = search needs
 
--- src/lib.rt:64:1
 returns-3 : tie.Need-returns-3
-returns-3 c = examined-good (c .before .before .before .before .before .before .before .before .if1 .left) (c .before .before .before .before .before .before .read .ensures) (c .before .before .before .if2 .left) (c .analysed .ensures)
+returns-3 c =
+    let after-if2 = c .before .before .before in
+    let after-read = after-if2 .before .before .before in
+    let after-if1 = after-read .before .before in
+    examined-good (after-if1 .if1 .left) (after-read .read .ensures) (after-if2 .if2 .left) (c .analysed .ensures)
 
 pub examined-spec : {M : Type 1} → statement M
 examined-spec =

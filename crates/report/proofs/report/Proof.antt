@@ -3,51 +3,58 @@ use Rattle.report.proofs.Examining.{name-short, reported-none, reported
 use borrow.Author.Needs.{needs}
 use Rattle.report.proofs.report.Statement.{statement}
 use Rattle.report.proofs.report.Tie as tie
-use Rattle.report.proofs.report.Reads as reads
-use Rattle.report.proofs.report.Lts as lts
-use Rattle.card.proofs.name_of.Reads as name-of-reads
-use Rattle.report.proofs.examined.Reads as examined-reads
-use Rattle.report.proofs.put_text.Reads as put-text-reads
 
--- src/lib.rt:100:9
 examined-requires : tie.Need-examined-requires
 examined-requires c κs = search needs
 
--- src/lib.rt:101:9
 name-of-requires : tie.Need-name-of-requires
 name-of-requires c κs = search needs
 
--- src/lib.rt:102:27
 slice-relend-prefix-put-text : tie.Need-slice-relend-prefix-put-text
 slice-relend-prefix-put-text c = search needs
 
--- src/lib.rt:102:27
 slice-aggregate-put-text : tie.Need-slice-aggregate-put-text
 slice-aggregate-put-text c = search needs
 
--- src/lib.rt:102:9
 put-text-requires : tie.Need-put-text-requires
-put-text-requires c κs = (rw (c .before .name-of .ensures .bytes) (name-short (c .before .before .before .before .before .args .card .now)), c .before .before .examined .ensures .within)
+put-text-requires c κs =
+    let after-name-of = c .before in
+    let after-examined = after-name-of .before in
+    let start = after-examined .before .before .before in
+    (rw (after-name-of .name-of .ensures .bytes) (name-short (start .args .card .now)), after-examined .examined .ensures .within)
 
--- src/lib.rt:104:9
 same-length : tie.Need-same-length
 same-length c = search needs
 
--- src/lib.rt:104:9
 returns : tie.Need-returns
-returns c = reported-none (c .before .before .before .before .before .before .before .before .before .args .out .now) (c .before .before .before .before .before .before .examined .ensures) (c .before .before .before .before .before .name-of .ensures .bytes) (c .before .before .before .put-text .ensures) (c .if1 .taken)
+returns c =
+    let after-put-text = c .before .before .before in
+    let after-name-of = after-put-text .before .before in
+    let after-examined = after-name-of .before in
+    let start = after-examined .before .before .before in
+    reported-none (start .args .out .now) (after-examined .examined .ensures) (after-name-of .name-of .ensures .bytes)
+    (after-put-text .put-text .ensures) (c .if1 .taken)
 
--- src/lib.rt:106:5
 put-text-requires-2 : tie.Need-put-text-requires-2
-put-text-requires-2 c κs = (rw (c .before .before .before .before .before .before .name-of .ensures .bytes) (name-short (c .before .before .before .before .before .before .before .before .before .before .args .card .now)), c .before .before .before .before .before .before .before .examined .ensures .within)
+put-text-requires-2 c κs =
+    let after-name-of = c .before .before .before .before .before .before in
+    let after-examined = after-name-of .before in
+    let start = after-examined .before .before .before in
+    (rw (after-name-of .name-of .ensures .bytes) (name-short (start .args .card .now)), after-examined .examined .ensures .within)
 
--- src/lib.rt:97:1
 same-length-2 : tie.Need-same-length-2
 same-length-2 c = search needs
 
--- src/lib.rt:97:1
 returns-2 : tie.Need-returns-2
-returns-2 c = reported-all (c .before .before .before .before .before .before .before .before .before .before .before .before .before .args .out .now) (c .before .before .before .before .before .before .before .before .before .before .examined .ensures) (c .before .before .before .before .before .before .before .before .before .name-of .ensures .bytes) (c .before .before .before .before .before .before .before .put-text .ensures) (c .before .before .before .before .if1 .left) (c .before .before .put-text2 .ensures)
+returns-2 c =
+    let after-put-text2 = c .before .before in
+    let after-if1 = after-put-text2 .before .before in
+    let after-put-text = after-if1 .before .before .before in
+    let after-name-of = after-put-text .before .before in
+    let after-examined = after-name-of .before in
+    let start = after-examined .before .before .before in
+    reported-all (start .args .out .now) (after-examined .examined .ensures) (after-name-of .name-of .ensures .bytes)
+    (after-put-text .put-text .ensures) (after-if1 .if1 .left) (after-put-text2 .put-text2 .ensures)
 
 pub report-spec : {M : Type 1} → statement M
 report-spec =

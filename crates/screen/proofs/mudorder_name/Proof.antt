@@ -1,29 +1,29 @@
 -- `screen::mudorder_name` meets its contract: an empty part is a refusal's, and any other starts behind `rig=`.
-use Rattle.screen.proofs.Unpacked.{name-short, name-none, name-some}
+use Rattle.screen.proofs.Unpacked.{name-none, name-some}
+use Rattle.report.proofs.Examining.{name-short}
 use native.Mathlib.Omega.{arith}
 use borrow.Author.Needs.{needs}
 use Rattle.screen.proofs.mudorder_name.Statement.{statement}
 use Rattle.screen.proofs.mudorder_name.Tie as tie
-use Rattle.screen.proofs.mudorder_name.Reads as reads
-use Rattle.screen.proofs.mudorder_name.Lts as lts
-use Rattle.card.proofs.name_of.Reads as name-of-reads
-use Rattle.screen.proofs.pack.Reads as pack-reads
 
--- src/lib.rt:55:9
 name-of-requires : tie.Need-name-of-requires
 name-of-requires c κs = search needs
 
--- src/lib.rt:57:9
 returns : tie.Need-returns
 returns c = name-none (c .before .before .before .args .card .now) (c .before .name-of .ensures .bytes) (c .if1 .taken)
 
--- src/lib.rt:59:5
 pack-requires : tie.Need-pack-requires
-pack-requires c κs = (omega (arith, name-short (c .before .before .before .args .card .now) (c .before .name-of .ensures .bytes)), omega arith, omega arith, omega arith)
+pack-requires c κs =
+    let after-name-of = c .before in
+    let start = after-name-of .before .before in
+    (rw (after-name-of .name-of .ensures .bytes) (omega (arith, name-short (start .args .card .now))), omega arith, omega arith, omega arith)
 
--- src/lib.rt:51:1
 returns-2 : tie.Need-returns-2
-returns-2 c = name-some (c .before .before .before .before .args .card .now) (c .before .before .name-of .ensures .bytes) (c .before .if1 .left) (c .pack .ensures)
+returns-2 c =
+    let after-if1 = c .before in
+    let after-name-of = after-if1 .before in
+    let start = after-name-of .before .before in
+    name-some (start .args .card .now) (after-name-of .name-of .ensures .bytes) (after-if1 .if1 .left) (c .pack .ensures)
 
 pub mudorder-name-spec : {M : Type 1} → statement M
 mudorder-name-spec = tie.close (tie.spec name-of-requires returns pack-requires returns-2)

@@ -4,47 +4,50 @@ use Rattle.report.proofs.ListLaws.{used-part, none-laid, some-laid}
 use borrow.Author.Needs.{needs}
 use Rattle.report.proofs.list.put_used.Statement.{statement}
 use Rattle.report.proofs.list.put_used.Tie as tie
-use Rattle.report.proofs.list.put_used.Reads as reads
-use Rattle.report.proofs.list.put_used.Lts as lts
-use Rattle.card.proofs.put.put_all.Reads as put-all-reads
-use Rattle.report.proofs.list.put_commas.Reads as put-commas-reads
-use Rattle.report.proofs.list.used.Reads as used-reads
 
--- src/list.rt:92:9
 used-requires : tie.Need-used-requires
 used-requires c κs = search needs
 
--- src/list.rt:94:33
 slice-aggregate-put-all : tie.Need-slice-aggregate-put-all
 slice-aggregate-put-all c = search needs
 
--- src/list.rt:94:9
 put-all-requires : tie.Need-put-all-requires
 put-all-requires c κs = search needs
 
--- src/list.rt:94:9
 same-length : tie.Need-same-length
 same-length c = search needs
 
--- src/list.rt:94:9
 returns : tie.Need-returns
-returns c = none-laid (c .before .before .before .before .before .before .before .before .before .args .strip .now) (c .before .before .before .before .before .before .used .ensures) (c .before .before .before .before .before .if1 .taken) (c .before .before .put-all .ensures)
+returns c =
+    let after-put-all = c .before .before in
+    let after-if1 = after-put-all .before .before .before in
+    let after-used = after-if1 .before in
+    let start = after-used .before .before .before in
+    none-laid (start .args .strip .now) (after-used .used .ensures) (after-if1 .if1 .taken) (after-put-all .put-all .ensures)
 
--- src/list.rt:96:25
 slice-aggregate-put-commas : tie.Need-slice-aggregate-put-commas
-slice-aggregate-put-commas c = used-part (c .before .before .before .before .before .before .args .strip .now) (c .before .before .before .used .result) (c .before .before .before .used .ensures) .0
+slice-aggregate-put-commas c =
+    let after-used = c .before .before .before in
+    let start = after-used .before .before .before in
+    used-part (start .args .strip .now) (after-used .used .result) (after-used .used .ensures) .0
 
--- src/list.rt:96:5
 put-commas-requires : tie.Need-put-commas-requires
-put-commas-requires c κs = omega (arith, used-part (c .before .before .before .before .before .before .args .strip .now) (c .before .before .before .used .result) (c .before .before .before .used .ensures), c .before .before .before .before .before .before .pre)
+put-commas-requires c κs =
+    let after-used = c .before .before .before in
+    let start = after-used .before .before .before in
+    omega (arith, used-part (start .args .strip .now) (after-used .used .result) (after-used .used .ensures), start .pre)
 
--- src/list.rt:88:1
 same-length-2 : tie.Need-same-length-2
 same-length-2 c = search needs
 
--- src/list.rt:88:1
 returns-2 : tie.Need-returns-2
-returns-2 c = some-laid (c .before .before .before .before .before .before .before .before .before .args .strip .now) (c .before .before .before .before .before .before .used .result) (c .before .before .before .before .before .before .used .ensures) (c .before .before .before .before .before .if1 .left) (c .before .before .put-commas .ensures)
+returns-2 c =
+    let after-put-commas = c .before .before in
+    let after-if1 = after-put-commas .before .before .before in
+    let after-used = after-if1 .before in
+    let start = after-used .before .before .before in
+    some-laid (start .args .strip .now) (after-used .used .result) (after-used .used .ensures) (after-if1 .if1 .left)
+    (after-put-commas .put-commas .ensures)
 
 pub put-used-spec : {M : Type 1} → statement M
 put-used-spec =

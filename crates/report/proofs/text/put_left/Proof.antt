@@ -8,36 +8,54 @@ use native.Mathlib.Omega.{arith}
 use borrow.Author.Needs.{needs}
 use Rattle.report.proofs.text.put_left.Statement.{statement}
 use Rattle.report.proofs.text.put_left.Tie as tie
-use Rattle.report.proofs.text.put_left.Reads as reads
-use Rattle.report.proofs.text.put_left.Lts as lts
-use Rattle.card.proofs.put.put.Reads as put-reads
-use Rattle.card.proofs.put.put_all.Reads as put-all-reads
-use Rattle.report.proofs.list.put_used.Reads as put-used-reads
-use Rattle.report.proofs.text.strip.Reads as strip-reads
 
--- src/text.rt:47:9
 put-all-requires : tie.Need-put-all-requires
 put-all-requires c κs = search needs
 
--- src/text.rt:48:35
 strip-requires : tie.Need-strip-requires
 strip-requires c κs = search needs
 
--- src/text.rt:48:9
 put-used-requires : tie.Need-put-used-requires
-put-used-requires c κs = omega (arith, c .before .before .before .before .put-all .ensures .place, c .before .before .before .before .before .before .before .before .before .pre .0, ap length (c .strip .ensures), strip-short (c .before .before .before .before .before .before .before .before .before .args .k) limit (c .before .before .before .before .before .before .before .before .before .args .answer .now))
+put-used-requires c κs =
+    let after-put-all = c .before .before .before .before in
+    let start = after-put-all .before .before .before .before .before in
+    omega (
+      arith,
+      after-put-all .put-all .ensures .place,
+      start .pre .0,
+      ap length (c .strip .ensures),
+      strip-short (start .args .k) limit
+          (start .args .answer .now),
+    )
 
--- src/text.rt:49:5
 put-requires : tie.Need-put-requires
-put-requires c κs = omega (arith, c .before .before .before .put-used .ensures .place, c .before .before .before .before .before .before .before .before .put-all .ensures .place, c .before .before .before .before .before .before .before .before .before .before .before .before .before .pre .0, ap length (c .before .before .before .before .strip .ensures), strip-short (c .before .before .before .before .before .before .before .before .before .before .before .before .before .args .k) limit (c .before .before .before .before .before .before .before .before .before .before .before .before .before .args .answer .now), used-short (c .before .before .before .before .strip .result .now))
+put-requires c κs =
+    let after-put-used = c .before .before .before in
+    let after-strip = after-put-used .before in
+    let after-put-all = after-strip .before .before .before .before in
+    let start = after-put-all .before .before .before .before .before in
+    omega (
+      arith,
+      after-put-used .put-used .ensures .place,
+      after-put-all .put-all .ensures .place,
+      start .pre .0,
+      ap length
+          (after-strip .strip .ensures),
+      strip-short (start .args .k) limit (start .args .answer .now),
+      used-short (after-strip .strip .result .now),
+    )
 
--- src/text.rt:43:1
 same-length : tie.Need-same-length
 same-length c = search needs
 
--- src/text.rt:43:1
 returns : tie.Need-returns
-returns c = laid-then (c .before .before .before .before .before .before .before .before .before .before .before .put-all .ensures) (laid-then (rw (c .before .before .before .before .before .before .before .strip .ensures) at (c .before .before .before .before .before .before .put-used .ensures)) (c .before .before .put .ensures))
+returns c =
+    let after-put = c .before .before in
+    let after-put-used = after-put .before .before .before .before in
+    let after-strip = after-put-used .before in
+    let after-put-all = after-strip .before .before .before .before in
+    laid-then (after-put-all .put-all .ensures) (laid-then (rw (after-strip .strip .ensures) at (after-put-used .put-used .ensures))
+    (after-put .put .ensures))
 
 pub put-left-spec : {M : Type 1} → statement M
 put-left-spec =

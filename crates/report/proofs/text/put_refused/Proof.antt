@@ -5,44 +5,62 @@ use native.Mathlib.Omega.{arith}
 use borrow.Author.Needs.{needs}
 use Rattle.report.proofs.text.put_refused.Statement.{statement}
 use Rattle.report.proofs.text.put_refused.Tie as tie
-use Rattle.report.proofs.text.put_refused.Reads as reads
-use Rattle.report.proofs.text.put_refused.Lts as lts
-use Rattle.card.proofs.put.put.Reads as put-reads
-use Rattle.card.proofs.put.put_all.Reads as put-all-reads
-use Rattle.card.proofs.put.put_line.Reads as put-line-reads
-use Rattle.report.proofs.text.put_place.Reads as put-place-reads
 
--- src/text.rt:138:35
 slice-aggregate-put-line : tie.Need-slice-aggregate-put-line
 slice-aggregate-put-line c = search needs
 
--- src/text.rt:138:9
 put-line-requires : tie.Need-put-line-requires
 put-line-requires c κs = search needs
 
--- src/text.rt:139:38
 slice-aggregate-put-all : tie.Need-slice-aggregate-put-all
 slice-aggregate-put-all c = search needs
 
--- src/text.rt:139:9
 put-all-requires : tie.Need-put-all-requires
-put-all-requires c κs = omega (arith, c .before .before .before .before .put-line .ensures .place, figure-short (bytes "refused=") (c .before .before .before .before .before .before .before .before .args .number))
+put-all-requires c κs =
+    let after-put-line = c .before .before .before .before in
+    let start = after-put-line .before .before .before .before in
+    omega (arith, after-put-line .put-line .ensures .place, figure-short (bytes "refused=") (start .args .number))
 
--- src/text.rt:140:9
 put-place-requires : tie.Need-put-place-requires
-put-place-requires c κs = omega (arith, c .before .before .before .put-all .ensures .place, c .before .before .before .before .before .before .before .before .put-line .ensures .place, figure-short (bytes "refused=") (c .before .before .before .before .before .before .before .before .before .before .before .before .args .number))
+put-place-requires c κs =
+    let after-put-all = c .before .before .before in
+    let after-put-line = after-put-all .before .before .before .before .before in
+    let start = after-put-line .before .before .before .before in
+    omega (
+      arith,
+      after-put-all .put-all .ensures .place,
+      after-put-line .put-line .ensures .place,
+      figure-short (bytes "refused=")
+          (start .args .number),
+    )
 
--- src/text.rt:141:5
 put-requires : tie.Need-put-requires
-put-requires c κs = omega (arith, c .before .before .before .put-place .ensures .place, place-short (c .before .before .before .before .before .before .before .before .before .before .before .before .before .before .before .before .args .place), c .before .before .before .before .before .before .before .put-all .ensures .place, c .before .before .before .before .before .before .before .before .before .before .before .before .put-line .ensures .place, figure-short (bytes "refused=") (c .before .before .before .before .before .before .before .before .before .before .before .before .before .before .before .before .args .number))
+put-requires c κs =
+    let after-put-place = c .before .before .before in
+    let after-put-all = after-put-place .before .before .before .before in
+    let after-put-line = after-put-all .before .before .before .before .before in
+    let start = after-put-line .before .before .before .before in
+    omega (
+      arith,
+      after-put-place .put-place .ensures .place,
+      place-short (start .args .place),
+      after-put-all .put-all .ensures .place,
+      after-put-line .put-line .ensures .place,
+      figure-short (bytes "refused=") (start .args .number),
+    )
 
--- src/text.rt:135:1
 same-length : tie.Need-same-length
 same-length c = search needs
 
--- src/text.rt:135:1
 returns : tie.Need-returns
-returns c = refused-laid (c .before .before .before .before .before .before .before .before .before .before .before .before .before .before .before .before .before .before .before .args .number) (c .before .before .before .before .before .before .before .before .before .before .before .before .before .before .before .before .before .before .before .args .place) (c .before .before .before .before .before .before .before .before .before .before .before .before .before .before .before .put-line .ensures) (c .before .before .before .before .before .before .before .before .before .before .put-all .ensures) (c .before .before .before .before .before .before .put-place .ensures) (c .before .before .put .ensures)
+returns c =
+    let after-put = c .before .before in
+    let after-put-place = after-put .before .before .before .before in
+    let after-put-all = after-put-place .before .before .before .before in
+    let after-put-line = after-put-all .before .before .before .before .before in
+    let start = after-put-line .before .before .before .before in
+    refused-laid (start .args .number) (start .args .place) (after-put-line .put-line .ensures) (after-put-all .put-all .ensures)
+    (after-put-place .put-place .ensures) (after-put .put .ensures)
 
 pub put-refused-spec : {M : Type 1} → statement M
 put-refused-spec =

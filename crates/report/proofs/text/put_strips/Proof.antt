@@ -6,46 +6,86 @@ use native.Mathlib.Omega.{arith}
 use borrow.Author.Needs.{needs}
 use Rattle.report.proofs.text.put_strips.Statement.{statement}
 use Rattle.report.proofs.text.put_strips.Tie as tie
-use Rattle.report.proofs.text.put_strips.Reads as reads
-use Rattle.report.proofs.text.put_strips.Lts as lts
-use Rattle.report.proofs.text.put_list.Reads as put-list-reads
-use Rattle.report.proofs.text.put_order.Reads as put-order-reads
 
--- src/text.rt:80:34
 slice-aggregate-put-list : tie.Need-slice-aggregate-put-list
 slice-aggregate-put-list c = search needs
 
--- src/text.rt:80:9
 put-list-requires : tie.Need-put-list-requires
 put-list-requires c κs = search needs
 
--- src/text.rt:81:37
 slice-aggregate-put-list-2 : tie.Need-slice-aggregate-put-list-2
 slice-aggregate-put-list-2 c = search needs
 
--- src/text.rt:81:9
 put-list-requires-2 : tie.Need-put-list-requires-2
-put-list-requires-2 c κs = (omega (arith, c .before .before .before .before .put-list .ensures .place, list-short (bytes "counts=") 0 (c .before .before .before .before .before .before .before .before .before .args .n) (c .before .before .before .before .before .before .before .before .before .args .answer .now), c .before .before .before .before .before .before .before .before .before .pre .0, c .before .before .before .before .before .before .before .before .before .pre .2), c .before .before .before .before .before .before .before .before .before .pre .1, omega arith, c .before .before .before .before .before .before .before .before .before .pre .2)
+put-list-requires-2 c κs =
+    let after-put-list = c .before .before .before .before in
+    let start = after-put-list .before .before .before .before .before in (
+      omega (
+        arith,
+        after-put-list .put-list .ensures .place,
+        list-short (bytes "counts=") 0 (start .args .n) (start .args .answer .now),
+        start .pre .0,
+        start .pre .2,
+      ),
+      start .pre .1,
+      omega arith,
+      start .pre .2,
+    )
 
--- src/text.rt:82:39
 slice-aggregate-put-list-3 : tie.Need-slice-aggregate-put-list-3
 slice-aggregate-put-list-3 c = search needs
 
--- src/text.rt:82:9
 put-list-requires-3 : tie.Need-put-list-requires-3
-put-list-requires-3 c κs = (omega (arith, c .before .before .before .before .before .before .before .before .before .put-list .ensures .place, list-short (bytes "counts=") 0 (c .before .before .before .before .before .before .before .before .before .before .before .before .before .before .args .n) (c .before .before .before .before .before .before .before .before .before .before .before .before .before .before .args .answer .now), c .before .before .before .before .put-list2 .ensures .place, list-short (bytes "tops=") 1 (c .before .before .before .before .before .before .before .before .before .before .before .before .before .before .args .n) (c .before .before .before .before .before .before .before .before .before .before .before .before .before .before .args .answer .now), c .before .before .before .before .before .before .before .before .before .before .before .before .before .before .pre .0, c .before .before .before .before .before .before .before .before .before .before .before .before .before .before .pre .2), c .before .before .before .before .before .before .before .before .before .before .before .before .before .before .pre .1, omega arith, c .before .before .before .before .before .before .before .before .before .before .before .before .before .before .pre .2)
+put-list-requires-3 c κs =
+    let after-put-list2 = c .before .before .before .before in
+    let after-put-list = after-put-list2 .before .before .before .before .before in
+    let start = after-put-list .before .before .before .before .before in (
+      omega (
+        arith,
+        after-put-list .put-list .ensures .place,
+        list-short (bytes "counts=") 0 (start .args .n) (start .args .answer .now),
+        after-put-list2 .put-list2 .ensures .place,
+        list-short (bytes "tops=") 1 (start .args .n) (start .args .answer .now),
+        start .pre .0,
+        start .pre .2,
+      ),
+      start .pre .1,
+      omega arith,
+      start .pre .2,
+    )
 
--- src/text.rt:83:5
 put-order-requires : tie.Need-put-order-requires
-put-order-requires c κs = (omega (arith, c .before .before .before .before .before .before .before .before .before .before .before .before .before .put-list .ensures .place, list-short (bytes "counts=") 0 (c .before .before .before .before .before .before .before .before .before .before .before .before .before .before .before .before .before .before .args .n) (c .before .before .before .before .before .before .before .before .before .before .before .before .before .before .before .before .before .before .args .answer .now), c .before .before .before .before .before .before .before .before .put-list2 .ensures .place, list-short (bytes "tops=") 1 (c .before .before .before .before .before .before .before .before .before .before .before .before .before .before .before .before .before .before .args .n) (c .before .before .before .before .before .before .before .before .before .before .before .before .before .before .before .before .before .before .args .answer .now), c .before .before .before .put-list3 .ensures .place, list-short (bytes "pairs=") 2 (c .before .before .before .before .before .before .before .before .before .before .before .before .before .before .before .before .before .before .args .n) (c .before .before .before .before .before .before .before .before .before .before .before .before .before .before .before .before .before .before .args .answer .now), c .before .before .before .before .before .before .before .before .before .before .before .before .before .before .before .before .before .before .pre .0, c .before .before .before .before .before .before .before .before .before .before .before .before .before .before .before .before .before .before .pre .2), c .before .before .before .before .before .before .before .before .before .before .before .before .before .before .before .before .before .before .pre .1, c .before .before .before .before .before .before .before .before .before .before .before .before .before .before .before .before .before .before .pre .2)
+put-order-requires c κs =
+    let after-put-list3 = c .before .before .before in
+    let after-put-list2 = after-put-list3 .before .before .before .before .before in
+    let after-put-list = after-put-list2 .before .before .before .before .before in
+    let start = after-put-list .before .before .before .before .before in (
+      omega (
+        arith,
+        after-put-list .put-list .ensures .place,
+        list-short (bytes "counts=") 0 (start .args .n) (start .args .answer .now),
+        after-put-list2 .put-list2 .ensures .place,
+        list-short (bytes "tops=") 1 (start .args .n) (start .args .answer .now),
+        after-put-list3 .put-list3 .ensures .place,
+        list-short (bytes "pairs=") 2 (start .args .n) (start .args .answer .now),
+        start .pre .0,
+        start .pre .2,
+      ),
+      start .pre .1,
+      start .pre .2,
+    )
 
--- src/text.rt:76:1
 same-length : tie.Need-same-length
 same-length c = search needs
 
--- src/text.rt:76:1
 returns : tie.Need-returns
-returns c = laid-then (c .before .before .before .before .before .before .before .before .before .before .before .before .before .before .before .before .put-list .ensures) (laid-then (c .before .before .before .before .before .before .before .before .before .before .before .put-list2 .ensures) (laid-then (c .before .before .before .before .before .before .put-list3 .ensures) (c .before .before .put-order .ensures)))
+returns c =
+    let after-put-order = c .before .before in
+    let after-put-list3 = after-put-order .before .before .before .before in
+    let after-put-list2 = after-put-list3 .before .before .before .before .before in
+    let after-put-list = after-put-list2 .before .before .before .before .before in
+    laid-then (after-put-list .put-list .ensures) (laid-then (after-put-list2 .put-list2 .ensures) (laid-then (after-put-list3 .put-list3 .ensures)
+    (after-put-order .put-order .ensures)))
 
 pub put-strips-spec : {M : Type 1} → statement M
 put-strips-spec =
