@@ -4,7 +4,7 @@ use mathlib.Core.List.{List, [], _∷_, _++_, append-assoc}
 use Prim.Native.Nat.{ℕ, suc, _+_, _-_, _*_, _/_, _≤_, _<_}
 use native.Mathlib.Omega.{arith}
 use lib.Dec.{ltb}
-use lib.ListN.{length, getD, take, drop, length-append, length-take, length-drop}
+use lib.ListN.{length, take, drop, length-append, length-take, length-drop}
 use lib.Seq.{length-take-le}
 use borrow.Author.Tests.{lt-ltb, le-ltb}
 use Rattle.laws.specs.Text.{bytes}
@@ -15,7 +15,7 @@ use Rattle.card.specs.Steps.{Laid}
 use Rattle.card.proofs.PutLaws.{laid-then, dec-short}
 use Rattle.card.proofs.WriteLaws.{laid-same}
 use Rattle.analysis.specs.Outcome.{answerBytes}
-use Rattle.report.specs.Printed.{field, further, joined, commas, orNone, splitOf, blocksOf, usedIn, stripIn, rankIn, indexIn, freedomIn, placeDec, refusedText, singularText, solvableText}
+use Rattle.report.specs.Printed.{field, further, joined, commas, orNone, usedIn, stripIn, rankIn, indexIn, freedomIn, placeDec, refusedText, singularText, solvableText}
 use Rattle.report.specs.Steps.{headText, stripsText}
 use Rattle.report.proofs.ListLaws.{used-within}
 
@@ -101,11 +101,6 @@ place-five n h p q r s t w = rw (le-ltb n 10000 h, ← p, ← q, ← r, ← s, �
 -- two strips of an answer are of one length
 pub strip-length : (k n : ℕ) (a : List ℕ) → length a ≡ answerBytes → k ≤ 4 → n ≤ limit → length (stripIn k n a) ≡ n
 strip-length k n a h i j = length-take-le n (drop (k * limit) a) (rw length-drop (omega arith))
-
-pub order-short : (n : ℕ) (a : List ℕ) → length (field "blocks=" (blocksOf (stripIn 3 n a) (stripIn 4 n a))) ≤ 5 * n + 8
-order-short n a =
-    rw (line-length (bytes "blocks=") (blocksOf (stripIn 3 n a) (stripIn 4 n a)))
-    (omega (arith, joined-short (λ i. splitOf (getD (stripIn 4 n a) i 0) (getD (stripIn 4 n a) (suc i) 0)) (stripIn 3 n a), strip-short 3 n a))
 
 pub figure-short : (key : List ℕ) (n : ℕ) → length (key ++ (dec n ++ LF ∷ [])) ≤ length key + 5
 figure-short key n = rw (line-length key (dec n)) (omega (arith, dec-short n))
