@@ -1,12 +1,12 @@
 -- The nine lettered models are outcomes by the definitions. A test of a row that antt computes, from the row and a pairing that is given for it; one lemma that
 -- the test implies the row's statement; and the table is one computation.
-use mathlib.Core.Path.{_≡_, refl, sym, ap, _∙_, subst, fun-ext}
+use mathlib.Core.Path.{_≡_, refl, sym, _∙_, subst, fun-ext}
 use mathlib.Core.Bool.{Bool, true, false, not, _&&_}
 use mathlib.Core.List.{List, [], _∷_, _++_, map}
 use Prim.{tt}
-use Prim.Native.Nat.{ℕ, zero, suc, _+_, _-_, _*_, _<_, _≤_}
+use Prim.Native.Nat.{ℕ, suc, _-_, _*_, _≤_}
 use native.Mathlib.Omega.{arith}
-use lib.Dec.{eqb, ltb, leb}
+use lib.Dec.{eqb, ltb}
 use lib.ListN.{length, getD, drop}
 use borrow.Author.Tests.{eqb-true, eq-eqb, ltb-true, le-ltb}
 use Rattle.laws.specs.Tab.{tab, pick}
@@ -55,7 +55,8 @@ solvedTests n edge ord rank r =
     ∷ isLeast n (leadIn edge ord r) (numberAt (r .strip1)) (numberAt (placesOf (r .strip3)))
     ∷ isFirst n (leadIn edge ord r) (numberAt (placesOf (r .strip3)))
     ∷ isPlaced n (needsIn n edge ord r) (numberAt (placesOf (r .strip4))) (numberAt (r .strip5)) (before (numberAt (r .strip5)) n)
-    ∷ eqb (r .number) (packed 0 0 rank (indexOf n (numberAt (r .strip1))) (freedomOf n n (numberAt (r .strip1)) (numberAt (r .strip2))) (before (numberAt (r .strip5)) n))
+    ∷ eqb (r .number) (packed 0 0 rank (indexOf n (numberAt (r .strip1))) (freedomOf n n (numberAt (r .strip1)) (numberAt (r .strip2)))
+    (before (numberAt (r .strip5)) n))
     ∷ []
 
 needs-within : (n : ℕ) (lead : Rel) (p : ℕ → ℕ) → Within n (needsAt n lead p)
@@ -125,7 +126,8 @@ singular E U edge M r behind k a b t = record {
     at : (i : ℕ) → getD (singularTests E U edge M r) i true ≡ true
     at = every-at (singularTests E U edge M r) t
 
-    listed : {v w x y z : List ℕ} → r .strip1 ≡ v → r .strip2 ≡ w → r .strip3 ≡ x → r .strip4 ≡ y → r .strip5 ≡ z → bytesOf r behind ≡ strips v w x y z ++ drop answerBytes behind
+    listed : {v w x y z : List ℕ} → r .strip1 ≡ v → r .strip2 ≡ w → r .strip3 ≡ x → r .strip4 ≡ y → r .strip5 ≡ z
+        → bytesOf r behind ≡ strips v w x y z ++ drop answerBytes behind
     listed {v} {w} {x} {y} {z} p q s t u = rw (p, q, s, t, u)
 
 -- solvable or singular, as the size of the given pairing says
@@ -219,7 +221,8 @@ holds r l t before h =
     let w = limits (r .equations) (r .unknowns) (and-left (inLimits (r .equations) (r .unknowns)) _ j) in
     record {
       refused = λ n. absurd (n z);
-      verdict = λ _. subst (λ (f : ℕ → ℕ → ℕ). Verdict (r .equations) (r .unknowns) (λ e u. not (eqb (f e u) 0)) (λ e u. f e u - 1) before (r .number) (bytesOf r before))
+      verdict = λ _. subst
+          (λ (f : ℕ → ℕ → ℕ). Verdict (r .equations) (r .unknowns) (λ e u. not (eqb (f e u) 0)) (λ e u. f e u - 1) before (r .number) (bytesOf r before))
           (sym (codes-are (r .equations) (r .unknowns) (r .table) (w .0 .high) (w .1 .high)))
           (verdict (λ e u. not (eqb (codes e u) 0)) (λ e u. codes e u - 1) l r (and-right (judged r) rest t) before);
     }

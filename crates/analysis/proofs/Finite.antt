@@ -1,6 +1,6 @@
 -- Tests that antt computes, and what each says: of all numbers below a bound, of a list of tests, of two lists.
-use mathlib.Core.Path.{_≡_, refl, sym, _∙_}
-use mathlib.Core.Bool.{Bool, true, false, not, _&&_}
+use mathlib.Core.Path.{_≡_, refl, sym}
+use mathlib.Core.Bool.{Bool, true, false, _&&_}
 use mathlib.Core.List.{List, [], _∷_}
 use Prim.Native.Nat.{ℕ, zero, suc, _<_}
 use native.Mathlib.Omega.{arith}
@@ -8,7 +8,7 @@ use lib.Dec.{eqb}
 use lib.ListN.{getD}
 use borrow.Author.Tests.{eqb-true}
 use Rattle.laws.specs.Tab.{pick}
-use Rattle.laws.proofs.Tests.{test, tests, clash, true≢false, and-left, and-right, and-both}
+use Rattle.laws.proofs.Tests.{test, tests, true≢false, and-left, and-right, and-both}
 
 -- every i below n has p i
 abbrev pub all : ℕ → (ℕ → Bool) → Bool

@@ -3,8 +3,8 @@
 -- one to one into themselves, so one of them has h's unknown in q; that one is e.
 use mathlib.Core.Path.{_≡_, refl, sym, ap, _∙_}
 use mathlib.Core.Bool.{Bool, true, false, not, _&&_}
-use mathlib.Core.List.{List, [], _∷_}
-use Prim.Native.Nat.{ℕ, zero, suc, _+_, _<_, _≤_}
+use mathlib.Core.List.{List}
+use Prim.Native.Nat.{ℕ, _<_, _≤_}
 use native.Mathlib.Omega.{arith}
 use lib.Dec.{eqb, ltb, leb}
 use borrow.Author.Tests.{eqb-true, eq-eqb, ltb-true, lt-ltb, le-leb}
@@ -13,8 +13,8 @@ use Rattle.laws.proofs.Tests.{test, tests, given, clash, and-left, and-right, a
 use Rattle.laws.proofs.Inject.{onto}
 use Rattle.pairing.specs.Pairing.{Rel}
 use Rattle.pairing.specs.First.{Partners, First}
-use Rattle.analysis.proofs.Finite.{all, all-at, all2, all2-at, implies, implies-at}
-use Rattle.analysis.proofs.Closure.{closure, closed, closed-at, closure-only, closure-start, closure-within}
+use Rattle.analysis.proofs.Finite.{all, all-at}
+use Rattle.analysis.proofs.Closure.{closure, closed, closed-at, closure-only, closure-start}
 use Rattle.analysis.proofs.LeastBy.{partner-of}
 
 -- h, behind e, holds a lower unknown that e could have

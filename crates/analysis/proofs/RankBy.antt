@@ -1,8 +1,8 @@
 -- A pairing that is given, and a test that it is a largest one: what its left over equations reach is closed, and every unknown met there is held.
 -- So the rank and the surplus equations are computed, and with equations and unknowns exchanged the unfixed unknowns.
-use mathlib.Core.Path.{_≡_, refl, sym, _∙_}
+use mathlib.Core.Path.{_≡_, refl}
 use mathlib.Core.Bool.{Bool, true, false, not, _&&_}
-use mathlib.Core.List.{List, [], _∷_}
+use mathlib.Core.List.{List}
 use Prim.Native.Nat.{ℕ, suc, _<_}
 use native.Mathlib.Omega.{arith}
 use lib.Dec.{eqb, ltb}
@@ -10,7 +10,7 @@ use lib.ListN.{getD}
 use borrow.Author.Tests.{eqb-true, ltb-true}
 use Rattle.laws.specs.Count.{any}
 use Rattle.laws.specs.Marks.{marked}
-use Rattle.laws.proofs.Tests.{test, tests, given, clash, not-true, and-left, and-right, and-both}
+use Rattle.laws.proofs.Tests.{test, given, clash, not-true, and-left, and-right, and-both}
 use Rattle.laws.proofs.Search.{any-here, any-where}
 use Rattle.pairing.specs.Pairing.{Rel, turn, Pairing, size, Rank, LeftOver, Surplus, Unfixed, Listed}
 use Rattle.pairing.specs.Holders.{Reach}

@@ -1,11 +1,10 @@
 -- From what the code holds to the outcome of a solvable model: arrays that are 0 beyond the last equation and their first n places are the same functions,
 -- and the table of leading occurrences says what the definition says wherever it is asked.
 use mathlib.Core.Path.{_≡_, refl, sym, ap, _∙_, ap₂, subst, subst₂, subst₃, fun-ext}
-use mathlib.Core.Bool.{Bool, true, false, not, _&&_}
 use mathlib.Core.List.{List, [], _∷_, _++_, map}
-use Prim.Native.Nat.{ℕ, zero, suc, _+_, _-_, _<_, _≤_}
+use Prim.Native.Nat.{ℕ, suc, _-_, _<_, _≤_}
 use native.Mathlib.Omega.{arith}
-use lib.Dec.{eqb, ltb}
+use lib.Dec.{ltb}
 use lib.ListN.{length, getD, take, drop, length-take, length-map, List·getD-map, List·getD-eq-default}
 use lib.Seq.{getD-take, length-take-le}
 use borrow.Author.Tests.{ltb-true}
@@ -129,7 +128,8 @@ module _ (n : ℕ) (t : List (List ℕ)) (counts tops : List ℕ) (partners : Li
   pub is-solved : (before : List ℕ) {number : ℕ} {after : List ℕ}
       → (length counts ≡ limit) × (length tops ≡ limit) × (length block ≡ limit)
       → number ≡ packed 0 0 n index freedom blocks
-      → after ≡ strips (take n counts) (take n tops) (take n (map unknownNumber partners)) (take n (map equationNumber order)) (take n block) ++ drop answerBytes before
+      → after ≡ strips (take n counts) (take n tops) (take n (map unknownNumber partners)) (take n (map equationNumber order)) (take n block)
+      ++ drop answerBytes before
       → Solved n (occursAt t) (orderAt t) n before number after
   is-solved before (lc, lt, lb) q r = record {
     counts = take n counts;

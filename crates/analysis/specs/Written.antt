@@ -7,7 +7,7 @@ use Rattle.table.specs.declared.number.Equation.{Equation}
 use Rattle.table.specs.declared.number.Unknown.{Unknown}
 use Rattle.pairing.specs.First.{FirstIs}
 use Rattle.counts.specs.Fit.{Least, indexOf, freedomOf}
-use Rattle.counts.specs.Work.{numberAt, leadingAt, leadingRows}
+use Rattle.counts.specs.Work.{numberAt, leadingRows}
 use Rattle.blocks.specs.Blocks.{needsAt}
 use Rattle.blocks.specs.Handed as handed
 
