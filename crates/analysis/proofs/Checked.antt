@@ -11,7 +11,7 @@ use lib.ListN.{length, getD, drop}
 use borrow.Author.Tests.{eqb-true, eq-eqb, ltb-true, le-ltb}
 use Rattle.laws.specs.Tab.{tab, pick}
 use Rattle.laws.specs.Marks.{marked}
-use Rattle.laws.proofs.Tests.{test, tests, clash, true≢false, not-true, and-left, and-right, and-both}
+use Rattle.laws.proofs.Tests.{test, tests, true≢false, not-true, and-left, and-right, and-both}
 use Rattle.laws.proofs.Tab.{getD-tab, getD-past}
 use Rattle.table.specs.Model.{limit, inLimits, firstAbove, codeAt, lentCode, rowsOf}
 use Rattle.table.proofs.Model.{limits, square-at}
@@ -23,16 +23,13 @@ use Rattle.counts.specs.Work.{numberAt}
 use Rattle.blocks.specs.Blocks.{needsAt, before}
 use Rattle.blocks.specs.Steps.{Within}
 use Rattle.analysis.specs.Outcome.{packed, strips, answerBytes, refusal, Solved, Singular, Verdict}
+use Rattle.analysis.specs.Written.{placesOf}
 use Rattle.analysis.specs.Models.{Row, Holds, Every, models}
-use Rattle.analysis.proofs.Finite.{every, every-at, same, same-is}
+use Rattle.analysis.proofs.Finite.{is-not, every, every-at, same, same-is}
 use Rattle.analysis.proofs.RankBy.{pairsIn, isPairing, is-pairing, overs, isLargest, rank-is, surplus-are, unfixed-are}
 use Rattle.analysis.proofs.LeastBy.{isPartners, is-partners, isOver, isLeast, is-least}
 use Rattle.analysis.proofs.FirstBy.{isFirst, is-first}
 use Rattle.analysis.proofs.PlacedBy.{isPlaced, is-placed}
-
--- the places of numbers
-abbrev placesOf : List ℕ → List ℕ
-placesOf l = map (λ x. x - 1) l
 
 -- the row's strips, read as a solvable answer, are one
 abbrev leadIn : Rel → (ℕ → ℕ → ℕ) → Row → Rel
@@ -201,10 +198,7 @@ not-refused r t before h =
     let b = eqb (length (r .table)) (r .equations * r .unknowns) in
     let c = ltb (firstAbove (r .table)) (length (r .table)) in
     let s = and-right a (b && not c) t in
-    rw (and-left a (b && not c) t, and-left b (not c) s, le-ltb (length before) answerBytes h, unless c (and-right b (not c) s)) refl
-  where
-    unless : (c : Bool) → not c ≡ true → c ≡ false
-    unless c w = test c (λ x. clash w (rw x refl)) (λ x. x)
+    rw (and-left a (b && not c) t, and-left b (not c) s, le-ltb (length before) answerBytes h, is-not c (and-right b (not c) s)) refl
 
 -- the test of a row, with a pairing: for each equation the number of its unknown, or 0
 abbrev rowTest : Row → List ℕ → Bool

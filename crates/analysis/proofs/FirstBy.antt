@@ -13,7 +13,7 @@ use Rattle.laws.proofs.Tests.{test, tests, given, clash, and-left, and-right, a
 use Rattle.laws.proofs.Inject.{onto}
 use Rattle.pairing.specs.Pairing.{Rel}
 use Rattle.pairing.specs.First.{Partners, First}
-use Rattle.analysis.proofs.Finite.{all, all-at}
+use Rattle.analysis.proofs.Finite.{all, all-at, is-not}
 use Rattle.analysis.proofs.Closure.{closure, closed, closed-at, closure-only, closure-start}
 use Rattle.analysis.proofs.LeastBy.{partner-of}
 
@@ -79,7 +79,7 @@ module _ (n : ℕ) (edge : Rel) (p : ℕ → ℕ) (k : Partners n n edge p) (q :
       (and-both (lt-ltb e g other) (and-both (rw (sym s) at (j .fits e h)) (lt-ltb (p g) (p e) (omega arith)))) in
       given (onto n C gives alone into g l member) (λ (a, b, c, r).
       let z : a ≡ e = same-q a e b h (gives-is a g r .1 ∙ s) in
-      clash (rw z at c) (out (and-right (closed n (moves edge p e) (moved n edge p e)) (not (C e)) t))))
+      clash (rw z at c) (is-not (C e) (and-right (closed n (moves edge p e) (moved n edge p e)) (not (C e)) t))))
     where
       out : not (C e) ≡ true → C e ≡ false
       out w = test (C e) (λ x. clash w (rw x refl)) (λ x. x)

@@ -20,17 +20,13 @@ use Rattle.counts.proofs.Work.{rows-lead}
 use Rattle.blocks.specs.Blocks.{needsAt, Placed}
 use Rattle.blocks.specs.Handed.{partnerAt}
 use Rattle.analysis.specs.Outcome.{packed, strips, answerBytes, Solved}
-use Rattle.analysis.specs.Written.{unknownNumber, equationNumber, SolutionIs}
+use Rattle.analysis.specs.Written.{placesOf, unknownNumber, equationNumber, SolutionIs}
 
 -- the first n of a list that is 0 beyond them
 front-is : (n : ℕ) (l : List ℕ) → ((i : ℕ) → n ≤ i → numberAt l i ≡ 0) → numberAt (take n l) ≡ numberAt l
 front-is n l beyond = fun-ext (λ i. test (ltb i n)
     (λ t. getD-take n l i 0 (ltb-true i n t))
     (λ t. List·getD-eq-default (take n l) 0 (omega (arith, tests, length-take n l)) ∙ sym (beyond i (omega (arith, tests)))))
-
--- their places
-abbrev placesOf : List ℕ → List ℕ
-placesOf l = map (λ x. x - 1) l
 
 places-are : (n : ℕ) (l : List ℕ) → ((i : ℕ) → n ≤ i → numberAt l i ≡ 0) → numberAt (placesOf (take n l)) ≡ (λ i. numberAt l i - 1)
 places-are n l beyond = fun-ext (λ i. List·getD-map (λ x. x - 1) (take n l) i 0 ∙ ap (λ (f : ℕ → ℕ). f i - 1) (front-is n l beyond))
