@@ -80,9 +80,6 @@ module _ (n : ℕ) (edge : Rel) (p : ℕ → ℕ) (k : Partners n n edge p) (q :
       given (onto n C gives alone into g l member) (λ (a, b, c, r).
       let z : a ≡ e = same-q a e b h (gives-is a g r .1 ∙ s) in
       clash (rw z at c) (is-not (C e) (and-right (closed n (moves edge p e) (moved n edge p e)) (not (C e)) t))))
-    where
-      out : not (C e) ≡ true → C e ≡ false
-      out w = test (C e) (λ x. clash w (rw x refl)) (λ x. x)
 
 pub is-first : (n : ℕ) (edge : Rel) (p : ℕ → ℕ) → Partners n n edge p → isFirst n edge p ≡ true → First n n edge p
 is-first n edge p k t = record {
