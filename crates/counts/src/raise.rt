@@ -17,9 +17,9 @@ ghost use Rattle.counts.specs.Work.{numberAt, topOrder, topsOf, leadingR
 ghost use Rattle.counts.specs.Placing.{PlacedIn, raisedBy};
 
 // Counts on the way, and who holds each unknown: an equation's number, or 0.
-pub struct Settled {
-    pub counts: [u8; LIMIT],
-    pub holders: [Equation; LIMIT],
+struct Settled {
+    counts: [u8; LIMIT],
+    holders: [Equation; LIMIT],
 }
 
 // The least counts by equation, the tops by unknown, and a full pairing over the leading occurrences, as holders.
