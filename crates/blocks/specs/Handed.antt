@@ -1,0 +1,49 @@
+-- What the functions are handed and hand back: the definitions of Blocks at the arrays of the code.
+use mathlib.Core.Path.{_≡_}
+use mathlib.Core.Bool.{true}
+use mathlib.Core.List.{List}
+use Prim.Native.Nat.{ℕ, _-_, _<_, _≤_}
+use lib.ListN.{getD}
+use Rattle.laws.specs.Count.{bit}
+use Rattle.table.specs.Model.{limit, Numbered, occursAt, square}
+use Rattle.table.specs.declared.number.Equation.{Equation}
+use Rattle.table.specs.declared.number.Unknown.{Unknown}
+use Rattle.pairing.specs.Pairing.{Rel}
+use Rattle.pairing.specs.First.{partnerOf}
+use Rattle.blocks.specs.Blocks.{Reaches, Placed}
+
+-- what stands at a place, and 0 beyond
+abbrev pub at : List ℕ → ℕ → ℕ
+at l i = getD l i 0
+
+-- the place of the partner of the equation at place e
+abbrev pub partnerAt : List Unknown → ℕ → ℕ
+partnerAt p e = partnerOf p e - 1
+
+-- within the limit, and each equation has a partner
+pub record Partnered (m : ℕ) (p : List Unknown) : Type 0 where
+  pub few : m ≤ limit
+  pub each : (e : ℕ) → e < m → Numbered (partnerOf p e)
+
+-- a table of codes 1 and 0
+abbrev pub Bits : List (List ℕ) → Type 0
+Bits t = t ≡ square (λ e f. bit (occursAt t e f))
+
+-- the table of what is reached
+pub record ReachTable (m : ℕ) (needs : Rel) (t : List (List ℕ)) : Type 0 where
+  pub bits : Bits t
+  pub row : (e f : ℕ) → occursAt t e f ≡ true → e < m
+  pub col : (e f : ℕ) → occursAt t e f ≡ true → f < m
+  pub only : (e f : ℕ) → occursAt t e f ≡ true → Reaches needs e f
+  pub all : (e f : ℕ) → e < m → f < m → Reaches needs e f → occursAt t e f ≡ true
+
+-- the number of the equation at place i of the solving order
+abbrev pub equationNumber : List Equation → ℕ → ℕ
+equationNumber o i = getD o i (record { 0 = 0 }) .0
+
+-- the placing as it is handed back: equation numbers in solving order, block numbers, and 0 beyond the last equation
+pub record Solved (m : ℕ) (needs : Rel) (order : List Equation) (block : List ℕ) (blocks : ℕ) : Type 0 where
+  pub placed : Placed m needs (λ i. equationNumber order i - 1) (at block) blocks
+  pub numbers : (i : ℕ) → i < m → 1 ≤ equationNumber order i
+  pub no-equation : (i : ℕ) → m ≤ i → equationNumber order i ≡ 0
+  pub no-block : (i : ℕ) → m ≤ i → at block i ≡ 0
