@@ -2,7 +2,6 @@
 use table::LIMIT;
 ghost use mathlib.Core.Path.{_≡_};
 ghost use Prim.Native.Nat.{_<_, _≤_};
-ghost use lib.ListN.{getD};
 ghost use Rattle.laws.specs.Tab.{tab};
 ghost use Rattle.table.specs.Model.{limit, occursAt};
 ghost use Rattle.blocks.specs.Handed.{at};

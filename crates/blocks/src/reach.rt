@@ -6,7 +6,7 @@ ghost use lib.Dec.{eqb};
 ghost use lib.ListN.{getD};
 ghost use Rattle.laws.specs.Count.{bit};
 ghost use Rattle.laws.specs.Tab.{tab, pick};
-ghost use Rattle.table.specs.Model.{limit, codeAt, occursAt, square};
+ghost use Rattle.table.specs.Model.{limit, occursAt, square};
 ghost use Rattle.blocks.specs.Handed.{Bits, ReachTable};
 ghost use Rattle.blocks.specs.Steps.{Within, atOnce, either, throughCode};
 
