@@ -19,8 +19,8 @@ use Rattle.table.specs.Model.{limit}
 use Rattle.pairing.specs.Pairing.{Rel}
 use Rattle.blocks.specs.Blocks.{Shares}
 use Rattle.blocks.specs.Blocks.Reaches.{here, step}
-use Rattle.blocks.specs.Handed.{at}
-use Rattle.blocks.specs.Steps.{Within, Closed, ways, both, keepsAt, waitsAt, Lowest, renumbered, Numbering, Numbered}
+use Rattle.blocks.specs.Handed.{at, Within, Closed}
+use Rattle.blocks.specs.Steps.{ways, both, keepsAt, waitsAt, Lowest, renumbered, Numbering, Numbered}
 use Rattle.blocks.proofs.Ways.{onward, ways-closed, ways-sound, ways-complete}
 
 not-so : (b : Bool) → not b ≡ true → b ≡ false

@@ -11,7 +11,7 @@ use Rattle.laws.proofs.Tests.{test, tests, either, given}
 use Rattle.pairing.specs.Pairing.{Rel}
 use Rattle.blocks.specs.Blocks.{Reaches, Shares, Stands, Ready, before, Placed}
 use Rattle.blocks.specs.Blocks.Reaches.{here, step}
-use Rattle.blocks.specs.Steps.{Within}
+use Rattle.blocks.specs.Handed.{Within}
 use Rattle.blocks.proofs.Ways.{shares-self}
 
 -- the numbers rise along the places

@@ -16,8 +16,8 @@ use Rattle.table.proofs.Model.{square-at}
 use Rattle.pairing.specs.Pairing.{Rel}
 use Rattle.blocks.specs.Blocks.{needsAt, Reaches}
 use Rattle.blocks.specs.Blocks.Reaches.{here, step}
-use Rattle.blocks.specs.Handed.{Bits, ReachTable}
-use Rattle.blocks.specs.Steps.{Within, Closed, throughCode, ways}
+use Rattle.blocks.specs.Handed.{Bits, ReachTable, Within, Closed}
+use Rattle.blocks.specs.Steps.{throughCode, ways}
 use Rattle.blocks.proofs.Ways.{onward, ways-closed, ways-sound, ways-complete}
 use Rattle.blocks.proofs.Tables.{through-bits}
 use Rattle.blocks.proofs.Placed.{Alike}

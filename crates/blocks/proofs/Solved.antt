@@ -10,8 +10,8 @@ use borrow.Author.Tests.{ltb-true, ltb-false}
 use Rattle.laws.proofs.Tests.{test, given}
 use Rattle.table.specs.declared.number.Equation.{Equation}
 use Rattle.pairing.specs.Pairing.{Rel}
-use Rattle.blocks.specs.Handed.{at, equationNumber, Solved}
-use Rattle.blocks.specs.Steps.{Within, Closed, Listed, Numbered}
+use Rattle.blocks.specs.Handed.{at, equationNumber, Solved, Within, Closed}
+use Rattle.blocks.specs.Steps.{Listed, Numbered}
 use Rattle.blocks.proofs.Placed.{Alike, placed-alike, one-placing, one-number}
 use Rattle.blocks.proofs.Rank.{place-onto}
 use Rattle.blocks.proofs.Listed.{Listing, placed}

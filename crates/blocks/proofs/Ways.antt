@@ -9,7 +9,8 @@ use Rattle.laws.proofs.Tests.{test, tests, either, and-left, and-right, and-bot
 use Rattle.pairing.specs.Pairing.{Rel}
 use Rattle.blocks.specs.Blocks.{Reaches, Shares}
 use Rattle.blocks.specs.Blocks.Reaches.{here, step}
-use Rattle.blocks.specs.Steps.{Within, Closed, atOnce, throughAt, ways}
+use Rattle.blocks.specs.Handed.{Within, Closed}
+use Rattle.blocks.specs.Steps.{atOnce, throughAt, ways}
 
 -- Reach is transitive, and an equation shares its own block.
 pub onward : {R : Rel} {e f g : ℕ} → Reaches R e f → Reaches R f g → Reaches R e g

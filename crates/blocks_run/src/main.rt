@@ -4,9 +4,7 @@ use blocks::place::Placing;
 use blocks::place::solve_order;
 use libc::STDOUT_FILENO;
 use table::LIMIT;
-use table::judge::well_sized;
 use table::number::Unknown;
-use table::rows::filled;
 ghost use Prim.Native.Nat.{_≤_};
 ghost use lib.ListN.{length};
 ghost use Rattle.table.specs.Model.{limit, Numbered};
@@ -91,19 +89,12 @@ fn print_blocks(placing: Placing, n: usize)
     }
 }
 
-fn show(name: &[u8], n: usize, leading: &[u8], numbers: &[u8]) {
-    print(name);
-    if !well_sized(n, n, leading) {
-        print(b" size\n");
-        return;
-    }
-    if numbers.len() < n {
-        print(b" partners\n");
-        return;
-    }
-    let table = filled(n, n, leading);
+fn show(name: &[u8], n: usize, leading: &[[u8; LIMIT]; LIMIT], numbers: &[u8])
+    requires { ⌜ (n ≤ limit) × (n ≤ length (now numbers)) ⌝ }
+{
     let partners = partners_of(numbers, n);
-    let placing = solve_order(&table, n, partners);
+    let placing = solve_order(leading, n, partners);
+    print(name);
     print(b" pairs=");
     print_partners(partners, n);
     print(b" blocks=");
@@ -111,215 +102,120 @@ fn show(name: &[u8], n: usize, leading: &[u8], numbers: &[u8]) {
     print(b"\n");
 }
 
-// Equation i has its own unknown and the next one's; the last has the first unknown besides if asked: one block of all.
-fn chain(last: u8) -> [u8; 1024] {
-    let mut table = [0u8; 1024];
-    let mut i = 0;
-    while i < 31 {
-        table[33 * i] = 1;
-        table[33 * i + 1] = 1;
-        i += 1;
+// A row of codes, from its first ones.
+fn row(codes: &[u8]) -> [u8; LIMIT] {
+    let mut row = [0u8; LIMIT];
+    let mut u = 0;
+    while u < LIMIT {
+        if u < codes.len() {
+            row[u] = codes[u];
+        }
+        u += 1;
     }
-    table[992] = last;
-    table[1023] = 1;
+    row
+}
+
+// A table of up to three rows.
+fn small(first: &[u8], second: &[u8], third: &[u8]) -> [[u8; LIMIT]; LIMIT] {
+    let mut table = [[0u8; LIMIT]; LIMIT];
+    table[0] = row(first);
+    table[1] = row(second);
+    table[2] = row(third);
     table
 }
 
-fn main() {
-    show(b"A", 3, &[1, 0, 1, 0, 1, 1, 1, 0, 0], &[3, 2, 1]);
-    show(b"G", 2, &[1, 1, 1, 1], &[1, 2]);
-    show(b"H", 2, &[1, 1, 1, 0], &[2, 1]);
-    show(b"J", 2, &[1, 0, 1, 1], &[1, 2]);
-    show(b"K", 3, &[1, 0, 1, 0, 1, 1, 1, 1, 0], &[1, 3, 2]);
-    show(
-        b"002 6x6",
-        6,
-        &[
-            0,
-            0,
-            1,
-            1,
-            0,
-            1,
-            1,
-            1,
-            0,
-            0,
-            1,
-            1,
-            0,
-            1,
-            1,
-            0,
-            0,
-            0,
-            1,
-            0,
-            1,
-            0,
-            1,
-            0,
-            0,
-            1,
-            0,
-            0,
-            0,
-            1,
-            0,
-            0,
-            1,
-            0,
-            0,
-            1,
-        ],
-        &[4, 1, 2, 5, 6, 3],
+// 002, "Example: BLT Sort".
+fn six() -> [[u8; LIMIT]; LIMIT] {
+    let mut table = small(
+        &[0, 0, 1, 1, 0, 1],
+        &[1, 1, 0, 0, 1, 1],
+        &[0, 1, 1, 0, 0, 0],
     );
+    table[3] = row(&[1, 0, 1, 0, 1, 0]);
+    table[4] = row(&[0, 1, 0, 0, 0, 1]);
+    table[5] = row(&[0, 0, 1, 0, 0, 1]);
+    table
+}
+
+// 002, "Sorting into Lower Triangular Form".
+fn triangular() -> [[u8; LIMIT]; LIMIT] {
+    let mut table = small(
+        &[0, 0, 1, 0, 0, 1, 0],
+        &[1, 1, 0, 0, 1, 1, 0],
+        &[0, 0, 0, 1, 1, 1, 0],
+    );
+    table[3] = row(&[0, 1, 0, 0, 0, 0, 0]);
+    table[4] = row(&[0, 0, 1, 0, 1, 0, 0]);
+    table[5] = row(&[0, 1, 0, 0, 0, 1, 0]);
+    table[6] = row(&[0, 1, 1, 0, 0, 0, 1]);
+    table
+}
+
+// 002, "Sorting into Block Lower Triangular (BLT) Form".
+fn looped() -> [[u8; LIMIT]; LIMIT] {
+    let mut table = small(
+        &[0, 0, 1, 1, 0, 1, 0],
+        &[1, 1, 0, 0, 1, 1, 0],
+        &[0, 0, 0, 1, 1, 0, 0],
+    );
+    table[3] = row(&[0, 1, 0, 0, 0, 0, 0]);
+    table[4] = row(&[1, 0, 1, 0, 1, 0, 0]);
+    table[5] = row(&[0, 1, 0, 0, 0, 1, 0]);
+    table[6] = row(&[0, 0, 1, 0, 0, 0, 1]);
+    table
+}
+
+// Equation i has its own unknown and the next one's; the last has the first one's besides if asked, and then all are one block.
+fn chain(last: u8) -> [[u8; LIMIT]; LIMIT] {
+    let mut table = [[0u8; LIMIT]; LIMIT];
+    let mut e = 0;
+    while e < 31 {
+        table[e][e] = 1;
+        table[e][e + 1] = 1;
+        e += 1;
+    }
+    table[31][31] = 1;
+    table[31][0] = last;
+    table
+}
+
+// Each equation has the unknown of its own number.
+fn own() -> [u8; 32] {
+    let mut numbers = [0u8; 32];
+    let mut number: u8 = 0;
+    let mut e = 0;
+    while e < 32 {
+        number += 1;
+        numbers[e] = number;
+        e += 1;
+    }
+    numbers
+}
+
+fn main() {
+    show(
+        b"A",
+        3,
+        &small(&[1, 0, 1], &[0, 1, 1], &[1, 0, 0]),
+        &[3, 2, 1],
+    );
+    show(b"G", 2, &small(&[1, 1], &[1, 1], &[]), &[1, 2]);
+    show(b"H", 2, &small(&[1, 1], &[1, 0], &[]), &[2, 1]);
+    show(b"J", 2, &small(&[1, 0], &[1, 1], &[]), &[1, 2]);
+    show(
+        b"K",
+        3,
+        &small(&[1, 0, 1], &[0, 1, 1], &[1, 1, 0]),
+        &[1, 3, 2],
+    );
+    show(b"002 6x6", 6, &six(), &[4, 1, 2, 5, 6, 3]);
     show(
         b"002 7x7 lower triangular",
         7,
-        &[
-            0,
-            0,
-            1,
-            0,
-            0,
-            1,
-            0,
-            1,
-            1,
-            0,
-            0,
-            1,
-            1,
-            0,
-            0,
-            0,
-            0,
-            1,
-            1,
-            1,
-            0,
-            0,
-            1,
-            0,
-            0,
-            0,
-            0,
-            0,
-            0,
-            0,
-            1,
-            0,
-            1,
-            0,
-            0,
-            0,
-            1,
-            0,
-            0,
-            0,
-            1,
-            0,
-            0,
-            1,
-            1,
-            0,
-            0,
-            0,
-            1,
-        ],
+        &triangular(),
         &[3, 1, 4, 2, 5, 6, 7],
     );
-    show(
-        b"002 7x7 with a loop",
-        7,
-        &[
-            0,
-            0,
-            1,
-            1,
-            0,
-            1,
-            0,
-            1,
-            1,
-            0,
-            0,
-            1,
-            1,
-            0,
-            0,
-            0,
-            0,
-            1,
-            1,
-            0,
-            0,
-            0,
-            1,
-            0,
-            0,
-            0,
-            0,
-            0,
-            1,
-            0,
-            1,
-            0,
-            1,
-            0,
-            0,
-            0,
-            1,
-            0,
-            0,
-            0,
-            1,
-            0,
-            0,
-            0,
-            1,
-            0,
-            0,
-            0,
-            1,
-        ],
-        &[3, 1, 4, 2, 5, 6, 7],
-    );
-    let all = [
-        1,
-        2,
-        3,
-        4,
-        5,
-        6,
-        7,
-        8,
-        9,
-        10,
-        11,
-        12,
-        13,
-        14,
-        15,
-        16,
-        17,
-        18,
-        19,
-        20,
-        21,
-        22,
-        23,
-        24,
-        25,
-        26,
-        27,
-        28,
-        29,
-        30,
-        31,
-        32,
-    ];
-    show(b"chain 32x32", 32, &chain(0), &all);
-    show(b"ring 32x32", 32, &chain(1), &all);
+    show(b"002 7x7 with a loop", 7, &looped(), &[3, 1, 4, 2, 5, 6, 7]);
+    show(b"chain 32x32", 32, &chain(0), &own());
+    show(b"ring 32x32", 32, &chain(1), &own());
 }

@@ -5,10 +5,10 @@ use Rattle.blocks_run.proofs.chain.Statement.{statement}
 use Rattle.blocks_run.proofs.chain.Tie as tie
 
 abbrev Inv-loop : tie.InvT-loop
-Inv-loop last table₀ i₀ table i = (i ≤ 31)
+Inv-loop last table₀ e₀ table e = (e ≤ 31)
 
 abbrev μ-loop : tie.MeasureT-loop
-μ-loop last table₀ i₀ table i = 31 - i
+μ-loop last table₀ e₀ table e = 31 - e
 
 loop-holds : tie.Need-loop-holds Inv-loop μ-loop
 loop-holds c = search needs
@@ -16,20 +16,26 @@ loop-holds c = search needs
 mul-table : tie.Need-mul-table Inv-loop μ-loop
 mul-table c = search needs
 
-array-write-table : tie.Need-array-write-table Inv-loop μ-loop
-array-write-table c = search needs
+index-1-table : tie.Need-index-1-table Inv-loop μ-loop
+index-1-table c = search needs
 
-mul-table-2 : tie.Need-mul-table-2 Inv-loop μ-loop
-mul-table-2 c = search needs
+index-2-table : tie.Need-index-2-table Inv-loop μ-loop
+index-2-table c = search needs
 
 add-table : tie.Need-add-table Inv-loop μ-loop
 add-table c = search needs
 
-array-write-table-2 : tie.Need-array-write-table-2 Inv-loop μ-loop
-array-write-table-2 c = search needs
+mul-table-2 : tie.Need-mul-table-2 Inv-loop μ-loop
+mul-table-2 c = search needs
 
-add-i : tie.Need-add-i Inv-loop μ-loop
-add-i c = search needs
+index-1-table-2 : tie.Need-index-1-table-2 Inv-loop μ-loop
+index-1-table-2 c = search needs
+
+index-2-table-2 : tie.Need-index-2-table-2 Inv-loop μ-loop
+index-2-table-2 c = search needs
+
+add-e : tie.Need-add-e Inv-loop μ-loop
+add-e c = search needs
 
 loop-less : tie.Need-loop-less Inv-loop μ-loop
 loop-less c = search needs
@@ -37,11 +43,17 @@ loop-less c = search needs
 loop-again : tie.Need-loop-again Inv-loop μ-loop
 loop-again c = search needs
 
-array-write-table-3 : tie.Need-array-write-table-3 Inv-loop μ-loop
-array-write-table-3 c = search needs
+index-1-table-3 : tie.Need-index-1-table-3 Inv-loop μ-loop
+index-1-table-3 c = search needs
 
-array-write-table-4 : tie.Need-array-write-table-4 Inv-loop μ-loop
-array-write-table-4 c = search needs
+index-2-table-3 : tie.Need-index-2-table-3 Inv-loop μ-loop
+index-2-table-3 c = search needs
+
+index-1-table-4 : tie.Need-index-1-table-4 Inv-loop μ-loop
+index-1-table-4 c = search needs
+
+index-2-table-4 : tie.Need-index-2-table-4 Inv-loop μ-loop
+index-2-table-4 c = search needs
 
 returns : tie.Need-returns Inv-loop μ-loop
 returns c = search needs
@@ -54,13 +66,17 @@ chain-spec =
     μ-loop
     loop-holds
     mul-table
-    array-write-table
-    mul-table-2
+    index-1-table
+    index-2-table
     add-table
-    array-write-table-2
-    add-i
+    mul-table-2
+    index-1-table-2
+    index-2-table-2
+    add-e
     loop-less
     loop-again
-    array-write-table-3
-    array-write-table-4
+    index-1-table-3
+    index-2-table-3
+    index-1-table-4
+    index-2-table-4
     returns)
