@@ -1,0 +1,86 @@
+// The writers of the strips. Each is lent its own stretch of the answer buffer and fills it wholly: what it has, and then unused places.
+use table::LIMIT;
+use table::number::Equation;
+use table::number::Unknown;
+ghost use mathlib.Core.Path.{_≡_};
+ghost use mathlib.Core.List.{[], map};
+ghost use Prim.Native.Nat.{suc, _≤_};
+ghost use lib.ListN.{length, take};
+ghost use Rattle.laws.specs.Marks.{marked};
+ghost use Rattle.table.specs.Model.{limit};
+ghost use Rattle.pairing.specs.Members.{members};
+ghost use Rattle.analysis.specs.Outcome.{strip};
+ghost use Rattle.analysis.specs.Written.{unknownNumber, equationNumber};
+
+// What an unused place of a strip holds.
+const UNUSED: u8 = 255;
+
+// A strip with nothing in it.
+pub fn unused(stretch: &mut [u8])
+    requires { ⌜ length (now stretch) ≡ limit ⌝ }
+    ensures { λ r. ⌜ now (stretch .exit) ≡ strip [] ⌝ }
+{
+    let mut i = 0;
+    while i < stretch.len() {
+        stretch[i] = UNUSED;
+        i += 1;
+    }
+}
+
+// Numbers by place: counts, tops, block numbers.
+pub fn numbers(stretch: &mut [u8], n: usize, numbers: [u8; LIMIT])
+    requires { ⌜ (length (now stretch) ≡ limit) × (n ≤ limit) ⌝ }
+    ensures { λ r. ⌜ now (stretch .exit) ≡ strip (take n numbers) ⌝ }
+{
+    unused(&mut *stretch);
+    let mut i = 0;
+    while i < n {
+        stretch[i] = numbers[i];
+        i += 1;
+    }
+}
+
+// The partner of each equation.
+pub fn unknowns(stretch: &mut [u8], n: usize, unknowns: [Unknown; LIMIT])
+    requires { ⌜ (length (now stretch) ≡ limit) × (n ≤ limit) ⌝ }
+    ensures { λ r. ⌜ now (stretch .exit) ≡ strip (take n (map unknownNumber unknowns)) ⌝ }
+{
+    unused(&mut *stretch);
+    let mut i = 0;
+    while i < n {
+        let unknown = unknowns[i];
+        stretch[i] = unknown.0;
+        i += 1;
+    }
+}
+
+// The equations in solving order.
+pub fn equations(stretch: &mut [u8], n: usize, equations: [Equation; LIMIT])
+    requires { ⌜ (length (now stretch) ≡ limit) × (n ≤ limit) ⌝ }
+    ensures { λ r. ⌜ now (stretch .exit) ≡ strip (take n (map equationNumber equations)) ⌝ }
+{
+    unused(&mut *stretch);
+    let mut i = 0;
+    while i < n {
+        let equation = equations[i];
+        stretch[i] = equation.0;
+        i += 1;
+    }
+}
+
+// The numbers of those that are marked, ascending: surplus equations, unfixed unknowns.
+pub fn listed(stretch: &mut [u8], n: usize, marks: [bool; LIMIT])
+    requires { ⌜ (length (now stretch) ≡ limit) × (n ≤ limit) ⌝ }
+    ensures { λ r. ⌜ now (stretch .exit) ≡ strip (map suc (members n (marked marks))) ⌝ }
+{
+    unused(&mut *stretch);
+    let mut at = 0;
+    let mut i = 0;
+    while i < n {
+        if marks[i] {
+            stretch[at] = (i + 1) as u8;
+            at += 1;
+        }
+        i += 1;
+    }
+}
