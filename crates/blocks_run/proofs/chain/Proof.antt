@@ -1,14 +1,16 @@
--- `chain` writes within its table.
+-- `chain` stores within its array.
+use mathlib.Core.Path.{_≡_}
 use Prim.Native.Nat.{_-_, _≤_}
+use lib.ListN.{length}
 use borrow.Author.Needs.{needs}
 use Rattle.blocks_run.proofs.chain.Statement.{statement}
 use Rattle.blocks_run.proofs.chain.Tie as tie
 
 abbrev Inv-loop : tie.InvT-loop
-Inv-loop last table₀ e₀ table e = (e ≤ 31)
+Inv-loop last table₀ i₀ table i = (i ≤ 31) × (length table ≡ 1024)
 
 abbrev μ-loop : tie.MeasureT-loop
-μ-loop last table₀ e₀ table e = 31 - e
+μ-loop last table₀ i₀ table i = 31 - i
 
 loop-holds : tie.Need-loop-holds Inv-loop μ-loop
 loop-holds c = search needs
@@ -16,26 +18,20 @@ loop-holds c = search needs
 mul-table : tie.Need-mul-table Inv-loop μ-loop
 mul-table c = search needs
 
-index-1-table : tie.Need-index-1-table Inv-loop μ-loop
-index-1-table c = search needs
-
-index-2-table : tie.Need-index-2-table Inv-loop μ-loop
-index-2-table c = search needs
-
-add-table : tie.Need-add-table Inv-loop μ-loop
-add-table c = search needs
+array-write-table : tie.Need-array-write-table Inv-loop μ-loop
+array-write-table c = search needs
 
 mul-table-2 : tie.Need-mul-table-2 Inv-loop μ-loop
 mul-table-2 c = search needs
 
-index-1-table-2 : tie.Need-index-1-table-2 Inv-loop μ-loop
-index-1-table-2 c = search needs
+add-table : tie.Need-add-table Inv-loop μ-loop
+add-table c = search needs
 
-index-2-table-2 : tie.Need-index-2-table-2 Inv-loop μ-loop
-index-2-table-2 c = search needs
+array-write-table-2 : tie.Need-array-write-table-2 Inv-loop μ-loop
+array-write-table-2 c = search needs
 
-add-e : tie.Need-add-e Inv-loop μ-loop
-add-e c = search needs
+add-i : tie.Need-add-i Inv-loop μ-loop
+add-i c = search needs
 
 loop-less : tie.Need-loop-less Inv-loop μ-loop
 loop-less c = search needs
@@ -43,17 +39,11 @@ loop-less c = search needs
 loop-again : tie.Need-loop-again Inv-loop μ-loop
 loop-again c = search needs
 
-index-1-table-3 : tie.Need-index-1-table-3 Inv-loop μ-loop
-index-1-table-3 c = search needs
+array-write-table-3 : tie.Need-array-write-table-3 Inv-loop μ-loop
+array-write-table-3 c = search needs
 
-index-2-table-3 : tie.Need-index-2-table-3 Inv-loop μ-loop
-index-2-table-3 c = search needs
-
-index-1-table-4 : tie.Need-index-1-table-4 Inv-loop μ-loop
-index-1-table-4 c = search needs
-
-index-2-table-4 : tie.Need-index-2-table-4 Inv-loop μ-loop
-index-2-table-4 c = search needs
+array-write-table-4 : tie.Need-array-write-table-4 Inv-loop μ-loop
+array-write-table-4 c = search needs
 
 returns : tie.Need-returns Inv-loop μ-loop
 returns c = search needs
@@ -66,17 +56,13 @@ chain-spec =
     μ-loop
     loop-holds
     mul-table
-    index-1-table
-    index-2-table
-    add-table
+    array-write-table
     mul-table-2
-    index-1-table-2
-    index-2-table-2
-    add-e
+    add-table
+    array-write-table-2
+    add-i
     loop-less
     loop-again
-    index-1-table-3
-    index-2-table-3
-    index-1-table-4
-    index-2-table-4
+    array-write-table-3
+    array-write-table-4
     returns)
