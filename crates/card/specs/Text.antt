@@ -5,6 +5,7 @@ use Prim.Native.Nat.{ℕ, zero, suc, _+_, _-_, _*_, _/_, _%_}
 use lib.Dec.{leb, ltb, eqb}
 use lib.ListN.{length, drop}
 use Rattle.laws.specs.Tab.{pick}
+use Rattle.laws.specs.Text.{bytes}
 use Rattle.card.specs.declared.text.Number.{Number}
 use Rattle.card.specs.declared.text.Number.the-variants.{Missing, Is}
 use Rattle.card.specs.declared.text.Line.{Line}
@@ -17,25 +18,20 @@ LF = 10
 abbrev pub comma : ℕ
 comma = 44
 
--- `rig=`
 abbrev pub rigKey : List ℕ
-rigKey = 114 ∷ 105 ∷ 103 ∷ 61 ∷ []
+rigKey = bytes "rig="
 
--- `equations=`
 abbrev pub equationsKey : List ℕ
-equationsKey = 101 ∷ 113 ∷ 117 ∷ 97 ∷ 116 ∷ 105 ∷ 111 ∷ 110 ∷ 115 ∷ 61 ∷ []
+equationsKey = bytes "equations="
 
--- `unknowns=`
 abbrev pub unknownsKey : List ℕ
-unknownsKey = 117 ∷ 110 ∷ 107 ∷ 110 ∷ 111 ∷ 119 ∷ 110 ∷ 115 ∷ 61 ∷ []
+unknownsKey = bytes "unknowns="
 
--- `occurs=`
 abbrev pub occursKey : List ℕ
-occursKey = 111 ∷ 99 ∷ 99 ∷ 117 ∷ 114 ∷ 115 ∷ 61 ∷ []
+occursKey = bytes "occurs="
 
--- `end=`
 abbrev pub endKey : List ℕ
-endKey = 101 ∷ 110 ∷ 100 ∷ 61 ∷ []
+endKey = bytes "end="
 
 -- the text begins with these bytes
 abbrev pub begins : List ℕ → List ℕ → Bool
