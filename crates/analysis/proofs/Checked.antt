@@ -21,7 +21,7 @@ use Rattle.pairing.specs.Members.{members}
 use Rattle.counts.specs.Fit.{leading, indexOf, freedomOf}
 use Rattle.counts.specs.Work.{numberAt}
 use Rattle.blocks.specs.Blocks.{needsAt, before}
-use Rattle.blocks.specs.Steps.{Within}
+use Rattle.blocks.specs.Handed.{Within}
 use Rattle.analysis.specs.Outcome.{packed, strips, answerBytes, refusal, Solved, Singular, Verdict}
 use Rattle.analysis.specs.Written.{placesOf}
 use Rattle.analysis.specs.Models.{Row, Holds, Every, models}

@@ -17,7 +17,7 @@ use Rattle.laws.proofs.Tab.{getD-tab}
 use Rattle.pairing.specs.Pairing.{Rel}
 use Rattle.blocks.specs.Blocks.{Reaches, Shares, Stands, Ready, before, Placed}
 use Rattle.blocks.specs.Blocks.Reaches.{here, step}
-use Rattle.blocks.specs.Steps.{Within}
+use Rattle.blocks.specs.Handed.{Within}
 use Rattle.analysis.proofs.Finite.{all, all-at, all-from, all2, all2-at, implies, implies-at, every, every-at}
 use Rattle.analysis.proofs.Closure.{closure, closed, closed-at, closure-only, closure-start}
 
