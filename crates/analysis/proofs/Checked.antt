@@ -1,17 +1,17 @@
 -- The nine lettered models are outcomes by the definitions. A test of a row that antt computes, from the row and a pairing that is given for it; one lemma that
 -- the test implies the row's statement; and the table is one computation.
-use mathlib.Core.Path.{_≡_, refl, sym, ap, _∙_, subst, fun-ext}
+use mathlib.Core.Path.{_≡_, refl, sym, _∙_, subst, fun-ext}
 use mathlib.Core.Bool.{Bool, true, false, not, _&&_}
 use mathlib.Core.List.{List, [], _∷_, _++_, map}
 use Prim.{tt}
-use Prim.Native.Nat.{ℕ, zero, suc, _+_, _-_, _*_, _<_, _≤_}
+use Prim.Native.Nat.{ℕ, suc, _-_, _*_, _≤_}
 use native.Mathlib.Omega.{arith}
-use lib.Dec.{eqb, ltb, leb}
+use lib.Dec.{eqb, ltb}
 use lib.ListN.{length, getD, drop}
 use borrow.Author.Tests.{eqb-true, eq-eqb, ltb-true, le-ltb}
 use Rattle.laws.specs.Tab.{tab, pick}
 use Rattle.laws.specs.Marks.{marked}
-use Rattle.laws.proofs.Tests.{test, tests, clash, true≢false, not-true, and-left, and-right, and-both}
+use Rattle.laws.proofs.Tests.{test, tests, true≢false, not-true, and-left, and-right, and-both}
 use Rattle.laws.proofs.Tab.{getD-tab, getD-past}
 use Rattle.table.specs.Model.{limit, inLimits, firstAbove, codeAt, lentCode, rowsOf}
 use Rattle.table.proofs.Model.{limits, square-at}
@@ -21,18 +21,15 @@ use Rattle.pairing.specs.Members.{members}
 use Rattle.counts.specs.Fit.{leading, indexOf, freedomOf}
 use Rattle.counts.specs.Work.{numberAt}
 use Rattle.blocks.specs.Blocks.{needsAt, before}
-use Rattle.blocks.specs.Steps.{Within}
+use Rattle.blocks.specs.Handed.{Within}
 use Rattle.analysis.specs.Outcome.{packed, strips, answerBytes, refusal, Solved, Singular, Verdict}
+use Rattle.analysis.specs.Written.{placesOf}
 use Rattle.analysis.specs.Models.{Row, Holds, Every, models}
-use Rattle.analysis.proofs.Finite.{every, every-at, same, same-is}
+use Rattle.analysis.proofs.Finite.{is-not, every, every-at, same, same-is}
 use Rattle.analysis.proofs.RankBy.{pairsIn, isPairing, is-pairing, overs, isLargest, rank-is, surplus-are, unfixed-are}
 use Rattle.analysis.proofs.LeastBy.{isPartners, is-partners, isOver, isLeast, is-least}
 use Rattle.analysis.proofs.FirstBy.{isFirst, is-first}
 use Rattle.analysis.proofs.PlacedBy.{isPlaced, is-placed}
-
--- the places of numbers
-abbrev placesOf : List ℕ → List ℕ
-placesOf l = map (λ x. x - 1) l
 
 -- the row's strips, read as a solvable answer, are one
 abbrev leadIn : Rel → (ℕ → ℕ → ℕ) → Row → Rel
@@ -55,7 +52,8 @@ solvedTests n edge ord rank r =
     ∷ isLeast n (leadIn edge ord r) (numberAt (r .strip1)) (numberAt (placesOf (r .strip3)))
     ∷ isFirst n (leadIn edge ord r) (numberAt (placesOf (r .strip3)))
     ∷ isPlaced n (needsIn n edge ord r) (numberAt (placesOf (r .strip4))) (numberAt (r .strip5)) (before (numberAt (r .strip5)) n)
-    ∷ eqb (r .number) (packed 0 0 rank (indexOf n (numberAt (r .strip1))) (freedomOf n n (numberAt (r .strip1)) (numberAt (r .strip2))) (before (numberAt (r .strip5)) n))
+    ∷ eqb (r .number) (packed 0 0 rank (indexOf n (numberAt (r .strip1))) (freedomOf n n (numberAt (r .strip1)) (numberAt (r .strip2)))
+    (before (numberAt (r .strip5)) n))
     ∷ []
 
 needs-within : (n : ℕ) (lead : Rel) (p : ℕ → ℕ) → Within n (needsAt n lead p)
@@ -125,7 +123,8 @@ singular E U edge M r behind k a b t = record {
     at : (i : ℕ) → getD (singularTests E U edge M r) i true ≡ true
     at = every-at (singularTests E U edge M r) t
 
-    listed : {v w x y z : List ℕ} → r .strip1 ≡ v → r .strip2 ≡ w → r .strip3 ≡ x → r .strip4 ≡ y → r .strip5 ≡ z → bytesOf r behind ≡ strips v w x y z ++ drop answerBytes behind
+    listed : {v w x y z : List ℕ} → r .strip1 ≡ v → r .strip2 ≡ w → r .strip3 ≡ x → r .strip4 ≡ y → r .strip5 ≡ z
+        → bytesOf r behind ≡ strips v w x y z ++ drop answerBytes behind
     listed {v} {w} {x} {y} {z} p q s t u = rw (p, q, s, t, u)
 
 -- solvable or singular, as the size of the given pairing says
@@ -199,10 +198,7 @@ not-refused r t before h =
     let b = eqb (length (r .table)) (r .equations * r .unknowns) in
     let c = ltb (firstAbove (r .table)) (length (r .table)) in
     let s = and-right a (b && not c) t in
-    rw (and-left a (b && not c) t, and-left b (not c) s, le-ltb (length before) answerBytes h, unless c (and-right b (not c) s)) refl
-  where
-    unless : (c : Bool) → not c ≡ true → c ≡ false
-    unless c w = test c (λ x. clash w (rw x refl)) (λ x. x)
+    rw (and-left a (b && not c) t, and-left b (not c) s, le-ltb (length before) answerBytes h, is-not c (and-right b (not c) s)) refl
 
 -- the test of a row, with a pairing: for each equation the number of its unknown, or 0
 abbrev rowTest : Row → List ℕ → Bool
@@ -219,7 +215,8 @@ holds r l t before h =
     let w = limits (r .equations) (r .unknowns) (and-left (inLimits (r .equations) (r .unknowns)) _ j) in
     record {
       refused = λ n. absurd (n z);
-      verdict = λ _. subst (λ (f : ℕ → ℕ → ℕ). Verdict (r .equations) (r .unknowns) (λ e u. not (eqb (f e u) 0)) (λ e u. f e u - 1) before (r .number) (bytesOf r before))
+      verdict = λ _. subst
+          (λ (f : ℕ → ℕ → ℕ). Verdict (r .equations) (r .unknowns) (λ e u. not (eqb (f e u) 0)) (λ e u. f e u - 1) before (r .number) (bytesOf r before))
           (sym (codes-are (r .equations) (r .unknowns) (r .table) (w .0 .high) (w .1 .high)))
           (verdict (λ e u. not (eqb (codes e u) 0)) (λ e u. codes e u - 1) l r (and-right (judged r) rest t) before);
     }

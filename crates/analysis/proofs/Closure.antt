@@ -1,14 +1,12 @@
 -- What grows from a start by steps, n rounds of it; whether it is closed then is for a test to say.
-use mathlib.Core.Path.{_≡_, refl, sym, _∙_}
-use mathlib.Core.Bool.{Bool, true, false, not, _&&_, _||_}
-use mathlib.Core.List.{List, [], _∷_}
-use Prim.Native.Nat.{ℕ, zero, suc, _<_, _≤_}
-use native.Mathlib.Omega.{arith}
-use lib.ListN.{length, getD}
+use mathlib.Core.Path.{_≡_, sym, _∙_}
+use mathlib.Core.Bool.{Bool, true, false, _&&_, _||_}
+use mathlib.Core.List.{List}
+use Prim.Native.Nat.{ℕ, zero, suc, _<_}
 use Rattle.laws.specs.Count.{any}
 use Rattle.laws.specs.Marks.{marked}
 use Rattle.laws.specs.Tab.{tab}
-use Rattle.laws.proofs.Tests.{test, either, given, clash, and-left, and-right, and-both, or-cases, or-left}
+use Rattle.laws.proofs.Tests.{either, given, and-left, and-right, and-both, or-cases, or-left}
 use Rattle.laws.proofs.Search.{any-where}
 use Rattle.laws.proofs.Tab.{length-tab, getD-tab}
 use Rattle.laws.proofs.Marks.{marked-within}

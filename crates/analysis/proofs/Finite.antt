@@ -1,5 +1,5 @@
 -- Tests that antt computes, and what each says: of all numbers below a bound, of a list of tests, of two lists.
-use mathlib.Core.Path.{_≡_, refl, sym, _∙_}
+use mathlib.Core.Path.{_≡_, refl, sym}
 use mathlib.Core.Bool.{Bool, true, false, not, _&&_}
 use mathlib.Core.List.{List, [], _∷_}
 use Prim.Native.Nat.{ℕ, zero, suc, _<_}
@@ -31,6 +31,9 @@ all2 m n p = all m (λ i. all n (p i))
 
 pub all2-at : {m n : ℕ} (p : ℕ → ℕ → Bool) → all2 m n p ≡ true → (i j : ℕ) → i < m → j < n → p i j ≡ true
 all2-at {m} {n} p t i j h k = all-at (p i) (all-at (λ x. all n (p x)) t i h) j k
+
+pub is-not : (b : Bool) → not b ≡ true → b ≡ false
+is-not b n = test b (λ t. clash n (rw t refl)) (λ f. f)
 
 -- where the first holds, so does the second
 abbrev pub implies : Bool → Bool → Bool

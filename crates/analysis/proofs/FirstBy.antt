@@ -3,8 +3,8 @@
 -- one to one into themselves, so one of them has h's unknown in q; that one is e.
 use mathlib.Core.Path.{_≡_, refl, sym, ap, _∙_}
 use mathlib.Core.Bool.{Bool, true, false, not, _&&_}
-use mathlib.Core.List.{List, [], _∷_}
-use Prim.Native.Nat.{ℕ, zero, suc, _+_, _<_, _≤_}
+use mathlib.Core.List.{List}
+use Prim.Native.Nat.{ℕ, _<_, _≤_}
 use native.Mathlib.Omega.{arith}
 use lib.Dec.{eqb, ltb, leb}
 use borrow.Author.Tests.{eqb-true, eq-eqb, ltb-true, lt-ltb, le-leb}
@@ -13,8 +13,8 @@ use Rattle.laws.proofs.Tests.{test, tests, given, clash, and-left, and-right, a
 use Rattle.laws.proofs.Inject.{onto}
 use Rattle.pairing.specs.Pairing.{Rel}
 use Rattle.pairing.specs.First.{Partners, First}
-use Rattle.analysis.proofs.Finite.{all, all-at, all2, all2-at, implies, implies-at}
-use Rattle.analysis.proofs.Closure.{closure, closed, closed-at, closure-only, closure-start, closure-within}
+use Rattle.analysis.proofs.Finite.{all, all-at, is-not}
+use Rattle.analysis.proofs.Closure.{closure, closed, closed-at, closure-only, closure-start}
 use Rattle.analysis.proofs.LeastBy.{partner-of}
 
 -- h, behind e, holds a lower unknown that e could have
@@ -79,10 +79,7 @@ module _ (n : ℕ) (edge : Rel) (p : ℕ → ℕ) (k : Partners n n edge p) (q :
       (and-both (lt-ltb e g other) (and-both (rw (sym s) at (j .fits e h)) (lt-ltb (p g) (p e) (omega arith)))) in
       given (onto n C gives alone into g l member) (λ (a, b, c, r).
       let z : a ≡ e = same-q a e b h (gives-is a g r .1 ∙ s) in
-      clash (rw z at c) (out (and-right (closed n (moves edge p e) (moved n edge p e)) (not (C e)) t))))
-    where
-      out : not (C e) ≡ true → C e ≡ false
-      out w = test (C e) (λ x. clash w (rw x refl)) (λ x. x)
+      clash (rw z at c) (is-not (C e) (and-right (closed n (moves edge p e) (moved n edge p e)) (not (C e)) t))))
 
 pub is-first : (n : ℕ) (edge : Rel) (p : ℕ → ℕ) → Partners n n edge p → isFirst n edge p ≡ true → First n n edge p
 is-first n edge p k t = record {

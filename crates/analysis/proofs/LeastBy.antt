@@ -1,15 +1,15 @@
 -- Counts, tops and partners that are given, and a test that the counts are the least: each equation is reached from one of count 0, a step leading from f to e where
 -- e's partner leads in f. Were some counts above those of a fit choice c′ by at least δ, the equations above by δ would go one to one into themselves,
 -- through the tight pairing of c′ and back by partner; so all that lead at their partners would be above by δ too, and with them an equation of count 0.
-use mathlib.Core.Path.{_≡_, refl, sym, ap, _∙_}
-use mathlib.Core.Bool.{Bool, true, false, not, _&&_}
-use mathlib.Core.List.{List, [], _∷_}
+use mathlib.Core.Path.{_≡_, sym}
+use mathlib.Core.Bool.{Bool, true, _&&_}
+use mathlib.Core.List.{List}
 use Prim.Native.Nat.{ℕ, zero, suc, _+_, _<_, _≤_}
 use native.Mathlib.Omega.{arith}
 use lib.Dec.{eqb, ltb, leb}
 use borrow.Author.Tests.{eqb-true, eq-eqb, ltb-true, leb-true}
 use Rattle.laws.specs.Marks.{marked}
-use Rattle.laws.proofs.Tests.{test, tests, given, clash, and-left, and-right, and-both}
+use Rattle.laws.proofs.Tests.{test, tests, given, and-left, and-right}
 use Rattle.laws.proofs.Inject.{onto}
 use Rattle.pairing.specs.Pairing.{Rel}
 use Rattle.pairing.specs.First.{Partners}

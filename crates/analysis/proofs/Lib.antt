@@ -12,3 +12,4 @@ pub mod Put
 pub mod Refusal
 pub mod Solution
 pub mod Verdicts
+pub mod Packed

@@ -1,12 +1,10 @@
 -- There is one outcome for each input. The rank is one, so two verdicts agree on solvable or singular; the least counts and their tops are one,
 -- so are the leading occurrences, the first partners over them and the placing; the two lists of a singular model are one each.
-use mathlib.Core.Path.{_≡_, refl, sym, ap, _∙_}
-use mathlib.Core.Bool.{Bool, true, false}
-use mathlib.Core.List.{List, _++_}
+use mathlib.Core.Path.{_≡_, sym, _∙_}
+use mathlib.Core.List.{List}
 use Prim.Native.Nat.{ℕ, _<_}
-use native.Mathlib.Omega.{arith}
 use lib.Dec.{eqb}
-use lib.ListN.{length, getD}
+use lib.ListN.{length}
 use lib.Seq.{ext-getD}
 use borrow.Author.Tests.{eqb-true, eqb-false}
 use Rattle.laws.proofs.Tests.{test}
@@ -15,12 +13,12 @@ use Rattle.pairing.specs.First.{First}
 use Rattle.pairing.proofs.Sizes.{rank-one}
 use Rattle.pairing.proofs.Lists.{listed-one}
 use Rattle.pairing.proofs.Choice.{first-one}
-use Rattle.counts.specs.Fit.{Least, leading, indexOf, freedomOf}
+use Rattle.counts.specs.Fit.{leading}
 use Rattle.counts.specs.Work.{numberAt}
 use Rattle.counts.proofs.Fit.{one-count, one-top}
 use Rattle.blocks.specs.Blocks.{needsAt, Placed}
 use Rattle.blocks.proofs.Placed.{one-placing, one-number}
-use Rattle.analysis.specs.Outcome.{packed, strips, refusal, Refused, Solved, Singular, Verdict, Reply}
+use Rattle.analysis.specs.Outcome.{refusal, Solved, Singular, Verdict, Reply}
 
 -- lists of one length that agree below it are one
 same-list : (n : ℕ) (l l′ : List ℕ) → length l ≡ n → length l′ ≡ n → ((i : ℕ) → i < n → numberAt l i ≡ numberAt l′ i) → l ≡ l′
@@ -56,7 +54,10 @@ module _ {n : ℕ} {edge : Rel} {ord : ℕ → ℕ → ℕ} {rank number number�
 
 singular-one : {E U : ℕ} {edge : Rel} {rank number number′ : ℕ} {before after after′ : List ℕ}
     → Singular E U edge rank before number after → Singular E U edge rank before number′ after′ → (number ≡ number′) × (after ≡ after′)
-singular-one a b = (a .says ∙ sym (b .says), a .holds ∙ (rw (listed-one (a .allSurplus) (b .allSurplus), listed-one (a .allUnfixed) (b .allUnfixed))) ∙ sym (b .holds))
+singular-one a b =
+    let surplus = listed-one (a .allSurplus) (b .allSurplus) in
+    let unfixed = listed-one (a .allUnfixed) (b .allUnfixed) in
+    (a .says ∙ sym (b .says), a .holds ∙ (rw (surplus, unfixed)) ∙ sym (b .holds))
 
 verdict-one : {E U : ℕ} {edge : Rel} {ord : ℕ → ℕ → ℕ} {before : List ℕ} {number number′ : ℕ} {after after′ : List ℕ}
     → Verdict E U edge ord before number after → Verdict E U edge ord before number′ after′ → (number ≡ number′) × (after ≡ after′)

@@ -1,8 +1,9 @@
--- A solving order and block numbers that are given, and a test that they are the placing: what each equation reaches is computed, and every part of the statement is tried.
-use mathlib.Core.Path.{_≡_, refl, sym, ap, _∙_}
-use mathlib.Core.Bool.{Bool, true, false, not, _&&_}
+-- A solving order and block numbers that are given, and a test that they are the placing: what each equation reaches is computed,
+-- and every part of the statement is tried.
+use mathlib.Core.Path.{_≡_, refl}
+use mathlib.Core.Bool.{Bool, true, not, _&&_}
 use mathlib.Core.List.{List, [], _∷_}
-use Prim.Native.Nat.{ℕ, zero, suc, _+_, _<_, _≤_}
+use Prim.Native.Nat.{ℕ, suc, _<_}
 use native.Mathlib.Omega.{arith}
 use lib.Dec.{eqb, ltb, leb}
 use lib.ListN.{getD}
@@ -10,13 +11,13 @@ use borrow.Author.Tests.{eqb-true, eq-eqb, ltb-true, lt-ltb, leb-true, le-leb}
 use Rattle.laws.specs.Count.{any}
 use Rattle.laws.specs.Marks.{marked}
 use Rattle.laws.specs.Tab.{tab}
-use Rattle.laws.proofs.Tests.{test, tests, given, clash, not-true, and-left, and-right, and-both}
+use Rattle.laws.proofs.Tests.{test, given, clash, not-true, and-left, and-right, and-both}
 use Rattle.laws.proofs.Search.{any-here, any-where}
 use Rattle.laws.proofs.Tab.{getD-tab}
 use Rattle.pairing.specs.Pairing.{Rel}
 use Rattle.blocks.specs.Blocks.{Reaches, Shares, Stands, Ready, before, Placed}
 use Rattle.blocks.specs.Blocks.Reaches.{here, step}
-use Rattle.blocks.specs.Steps.{Within}
+use Rattle.blocks.specs.Handed.{Within}
 use Rattle.analysis.proofs.Finite.{all, all-at, all-from, all2, all2-at, implies, implies-at, every, every-at}
 use Rattle.analysis.proofs.Closure.{closure, closed, closed-at, closure-only, closure-start}
 
@@ -102,7 +103,10 @@ module _ (n : ℕ) (R : Rel) (W : Within n R) (shut : all n (λ e. closed n R (g
   complete e g h r = onward e e h h (rw (row e h) (closure-start n R (eqb e) e h (eq-eqb e e refl))) r
 
   share : (e f : ℕ) → e < n → f < n → shares rows e f ≡ true → Shares R e f
-  share e f h k t = record { there = sound e f h (and-left (reaches rows e f) (reaches rows f e) t); back = sound f e k (and-right (reaches rows e f) (reaches rows f e) t) }
+  share e f h k t = record {
+    there = sound e f h (and-left (reaches rows e f) (reaches rows f e) t);
+    back = sound f e k (and-right (reaches rows e f) (reaches rows f e) t);
+  }
 
   shared : (e f : ℕ) → e < n → f < n → Shares R e f → shares rows e f ≡ true
   shared e f h k s = and-both (complete e f h (s .there)) (complete f e k (s .back))

@@ -1,8 +1,8 @@
 -- A pairing that is given, and a test that it is a largest one: what its left over equations reach is closed, and every unknown met there is held.
 -- So the rank and the surplus equations are computed, and with equations and unknowns exchanged the unfixed unknowns.
-use mathlib.Core.Path.{_≡_, refl, sym, _∙_}
-use mathlib.Core.Bool.{Bool, true, false, not, _&&_}
-use mathlib.Core.List.{List, [], _∷_}
+use mathlib.Core.Path.{_≡_, refl}
+use mathlib.Core.Bool.{Bool, true, not, _&&_}
+use mathlib.Core.List.{List}
 use Prim.Native.Nat.{ℕ, suc, _<_}
 use native.Mathlib.Omega.{arith}
 use lib.Dec.{eqb, ltb}
@@ -10,7 +10,7 @@ use lib.ListN.{getD}
 use borrow.Author.Tests.{eqb-true, ltb-true}
 use Rattle.laws.specs.Count.{any}
 use Rattle.laws.specs.Marks.{marked}
-use Rattle.laws.proofs.Tests.{test, tests, given, clash, not-true, and-left, and-right, and-both}
+use Rattle.laws.proofs.Tests.{test, given, clash, and-left, and-right, and-both}
 use Rattle.laws.proofs.Search.{any-here, any-where}
 use Rattle.pairing.specs.Pairing.{Rel, turn, Pairing, size, Rank, LeftOver, Surplus, Unfixed, Listed}
 use Rattle.pairing.specs.Holders.{Reach}
@@ -21,7 +21,7 @@ use Rattle.pairing.specs.Left.{Certificate}
 use Rattle.pairing.proofs.Certificate.{largest, left-over}
 use Rattle.pairing.proofs.Turn.{left-over-unknown}
 use Rattle.pairing.proofs.Lists.{members-listed}
-use Rattle.analysis.proofs.Finite.{all, all-at, all2, all2-at, implies, implies-at}
+use Rattle.analysis.proofs.Finite.{all, all-at, is-not, all2, all2-at, implies, implies-at}
 use Rattle.analysis.proofs.Closure.{closure, closed, closed-at, closure-only, closure-start, closure-within}
 
 -- the pairs of a list that has for each equation the number of its unknown, or 0
@@ -91,10 +91,7 @@ module _ (m n : ℕ) (edge M : Rel) (k : Pairing m n edge M) (t : isLargest m n 
   From e = (f : ℕ) × (marked (overs m n edge M) f ≡ true) × LeftOver M f × Reach edge M f e
 
   begins : (e : ℕ) → e < m → free n M e ≡ true → From e
-  begins e h f = (e, closure-start m (asks n edge M) (free n M) e h f, λ u w. clash (has-pair k e u w) (none f), start)
-    where
-      none : free n M e ≡ true → any n (M e) ≡ false
-      none f = not-true (λ a. clash f (rw a))
+  begins e h f = (e, closure-start m (asks n edge M) (free n M) e h f, λ u w. clash (has-pair k e u w) (is-not (any n (M e)) f), start)
 
   goes-on : (a e : ℕ) → a < m → e < m → From a → asks n edge M a e ≡ true → From e
   goes-on a e h b (f, x, o, r) s = given (any-where {n = n} (λ u. edge a u && M e u) s) (λ (u, c, w).

@@ -12,12 +12,13 @@ use Rattle.laws.proofs.Tests.{test, tests, clash, and-both}
 use Rattle.table.specs.Model.{topCode, inLimits, wellSized, firstAbove, rowsOf}
 use Rattle.table.proofs.Model.{limits}
 use Rattle.counts.proofs.Judged.{judged}
+use Rattle.analysis.proofs.Finite.{is-not}
 use Rattle.analysis.specs.Outcome.{answerBytes, refusal, refusalPlace}
 use Rattle.analysis.specs.Written.{Judged}
 
 -- what a test said that was turned round
 pub is-out : {r a : Bool} → r ≡ a → not r ≡ true → a ≡ false
-is-out {r} e n = test r (λ t. clash n (rw t refl)) (λ f. sym e ∙ f)
+is-out {r} e n = sym e ∙ is-not r n
 
 pub is-in : {r a : Bool} → r ≡ a → not r ≡ false → a ≡ true
 is-in {r} e n = test r (λ t. sym e ∙ t) (λ f. clash (rw f refl) n)

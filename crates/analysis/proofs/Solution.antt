@@ -1,11 +1,10 @@
 -- From what the code holds to the outcome of a solvable model: arrays that are 0 beyond the last equation and their first n places are the same functions,
 -- and the table of leading occurrences says what the definition says wherever it is asked.
 use mathlib.Core.Path.{_≡_, refl, sym, ap, _∙_, ap₂, subst, subst₂, subst₃, fun-ext}
-use mathlib.Core.Bool.{Bool, true, false, not, _&&_}
 use mathlib.Core.List.{List, [], _∷_, _++_, map}
-use Prim.Native.Nat.{ℕ, zero, suc, _+_, _-_, _<_, _≤_}
+use Prim.Native.Nat.{ℕ, suc, _-_, _<_, _≤_}
 use native.Mathlib.Omega.{arith}
-use lib.Dec.{eqb, ltb}
+use lib.Dec.{ltb}
 use lib.ListN.{length, getD, take, drop, length-take, length-map, List·getD-map, List·getD-eq-default}
 use lib.Seq.{getD-take, length-take-le}
 use borrow.Author.Tests.{ltb-true}
@@ -21,17 +20,13 @@ use Rattle.counts.proofs.Work.{rows-lead}
 use Rattle.blocks.specs.Blocks.{needsAt, Placed}
 use Rattle.blocks.specs.Handed.{partnerAt}
 use Rattle.analysis.specs.Outcome.{packed, strips, answerBytes, Solved}
-use Rattle.analysis.specs.Written.{unknownNumber, equationNumber, SolutionIs}
+use Rattle.analysis.specs.Written.{placesOf, unknownNumber, equationNumber, SolutionIs}
 
 -- the first n of a list that is 0 beyond them
 front-is : (n : ℕ) (l : List ℕ) → ((i : ℕ) → n ≤ i → numberAt l i ≡ 0) → numberAt (take n l) ≡ numberAt l
 front-is n l beyond = fun-ext (λ i. test (ltb i n)
     (λ t. getD-take n l i 0 (ltb-true i n t))
     (λ t. List·getD-eq-default (take n l) 0 (omega (arith, tests, length-take n l)) ∙ sym (beyond i (omega (arith, tests)))))
-
--- their places
-abbrev placesOf : List ℕ → List ℕ
-placesOf l = map (λ x. x - 1) l
 
 places-are : (n : ℕ) (l : List ℕ) → ((i : ℕ) → n ≤ i → numberAt l i ≡ 0) → numberAt (placesOf (take n l)) ≡ (λ i. numberAt l i - 1)
 places-are n l beyond = fun-ext (λ i. List·getD-map (λ x. x - 1) (take n l) i 0 ∙ ap (λ (f : ℕ → ℕ). f i - 1) (front-is n l beyond))
@@ -129,7 +124,8 @@ module _ (n : ℕ) (t : List (List ℕ)) (counts tops : List ℕ) (partners : Li
   pub is-solved : (before : List ℕ) {number : ℕ} {after : List ℕ}
       → (length counts ≡ limit) × (length tops ≡ limit) × (length block ≡ limit)
       → number ≡ packed 0 0 n index freedom blocks
-      → after ≡ strips (take n counts) (take n tops) (take n (map unknownNumber partners)) (take n (map equationNumber order)) (take n block) ++ drop answerBytes before
+      → after ≡ strips (take n counts) (take n tops) (take n (map unknownNumber partners)) (take n (map equationNumber order)) (take n block)
+      ++ drop answerBytes before
       → Solved n (occursAt t) (orderAt t) n before number after
   is-solved before (lc, lt, lb) q r = record {
     counts = take n counts;

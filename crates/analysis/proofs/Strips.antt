@@ -2,7 +2,7 @@
 use mathlib.Core.Path.{_≡_, refl, sym, ap, _∙_}
 use mathlib.Core.Bool.{Bool, true, false}
 use mathlib.Core.List.{List, [], _∷_, _++_, map, map-append}
-use Prim.Native.Nat.{ℕ, zero, suc, _+_, _<_, _≤_}
+use Prim.Native.Nat.{ℕ, suc, _+_, _<_, _≤_}
 use native.Mathlib.Numerals.{add-one}
 use native.Mathlib.Omega.{arith}
 use lib.Dec.{eqb, ltb}
@@ -54,7 +54,8 @@ strip-add l x h = is-tab (set (strip l) (length l) x) 0 limit (λ i. getD (l ++ 
         (λ t. rw (eqb-true k (length l) t) (getD-set-same (strip l) (length l) x 0 (rw (strip-length l) h) ∙ sym (getD-append-seam l x [] unused)))
         (λ t. getD-set-other (strip l) (length l) k x 0 (eqb-false k (length l) t) ∙ getD-tab limit (λ i. getD l i unused) k 0 b ∙ test (ltb k (length l))
         (λ s. sym (List·getD-append l (x ∷ []) unused k (ltb-true k (length l) s)))
-        (λ s. List·getD-eq-default l unused (omega (arith, tests)) ∙ sym (List·getD-eq-default (l ++ x ∷ []) unused (omega (arith, tests, length-append l (x ∷ []))))))
+        (λ s. List·getD-eq-default l unused (omega (arith, tests))
+        ∙ sym (List·getD-eq-default (l ++ x ∷ []) unused (omega (arith, tests, length-append l (x ∷ []))))))
 
 -- a stretch that holds the first i numbers of L
 pub record Filling (L l : List ℕ) (i : ℕ) : Type 0 where

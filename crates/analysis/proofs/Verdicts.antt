@@ -2,7 +2,7 @@
 use mathlib.Core.Path.{_≡_, refl, sym, ap, _∙_, subst}
 use mathlib.Core.Bool.{Bool, true, false, _&&_}
 use mathlib.Core.List.{List, [], _++_, map}
-use Prim.Native.Nat.{ℕ, suc, _<_, _≤_}
+use Prim.Native.Nat.{ℕ, suc}
 use native.Mathlib.Omega.{arith}
 use lib.Dec.{eqb}
 use lib.ListN.{length, drop}
@@ -16,7 +16,7 @@ use Rattle.pairing.specs.Members.{members}
 use Rattle.pairing.proofs.Sizes.{size-full}
 use Rattle.pairing.proofs.Lists.{members-listed}
 use Rattle.counts.specs.Work.{Ready}
-use Rattle.analysis.specs.Outcome.{packed, strips, answerBytes, refusal, refusalPlace, Solved, Singular, Verdict, Reply}
+use Rattle.analysis.specs.Outcome.{packed, strips, answerBytes, refusal, refusalPlace, Solved, Verdict, Reply}
 use Rattle.analysis.specs.Written.{Judged}
 
 -- the test of the code, taken apart
@@ -31,7 +31,8 @@ pub all-ready : {E U rank : ℕ} {t : List (List ℕ)} {surplus unfixed : List B
     → (eqb E U && eqb rank E) ≡ true → Ready E t
 all-ready {E} {U} {rank} {t} j l w =
     let same = paired-square E U rank w in
-    let r : Rank E E (occursAt t) E = subst (λ (n : ℕ). Rank E n (occursAt t) E) (sym same) (subst (λ (k : ℕ). Rank E U (occursAt t) k) (paired-all E U rank w) (l .ranked)) in
+    let all : Rank E U (occursAt t) E = subst (λ (k : ℕ). Rank E U (occursAt t) k) (paired-all E U rank w) (l .ranked) in
+    let r : Rank E E (occursAt t) E = subst (λ (n : ℕ). Rank E n (occursAt t) E) (sym same) all in
     record {
       within = j .equations;
       codes = λ e u h k. j .codes e u h (omega arith);

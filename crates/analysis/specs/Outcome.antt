@@ -1,7 +1,7 @@
 -- Document 01, "What the analysis hands back": for E, U, the lent table and the answer buffer before, the number handed back and the answer buffer after.
 -- Equations and unknowns are spoken of by their places, counted from 0; the answer has their numbers, one more.
 use mathlib.Core.Path.{_≡_}
-use mathlib.Core.Bool.{Bool, not}
+use mathlib.Core.Bool.{not}
 use mathlib.Core.List.{List, [], _++_, map}
 use Prim.Native.Nat.{ℕ, suc, _+_, _*_}
 use lib.Dec.{eqb, ltb}

@@ -1,15 +1,19 @@
 -- What the code of this crate holds, in the terms of the definitions. Nothing here is needed to read what the analysis promises.
 use mathlib.Core.Path.{_≡_}
-use mathlib.Core.List.{List}
-use Prim.Native.Nat.{ℕ, _<_, _≤_}
+use mathlib.Core.List.{List, map}
+use Prim.Native.Nat.{ℕ, _-_, _<_, _≤_}
 use Rattle.table.specs.Model.{limit, topCode, codeAt, occursAt, orderAt}
 use Rattle.table.specs.declared.number.Equation.{Equation}
 use Rattle.table.specs.declared.number.Unknown.{Unknown}
 use Rattle.pairing.specs.First.{FirstIs}
 use Rattle.counts.specs.Fit.{Least, indexOf, freedomOf}
-use Rattle.counts.specs.Work.{numberAt, leadingAt, leadingRows}
+use Rattle.counts.specs.Work.{numberAt, leadingRows}
 use Rattle.blocks.specs.Blocks.{needsAt}
 use Rattle.blocks.specs.Handed as handed
+
+-- numbers from 1, as places from 0
+abbrev pub placesOf : List ℕ → List ℕ
+placesOf l = map (λ x. x - 1) l
 
 abbrev pub unknownNumber : Unknown → ℕ
 unknownNumber u = u .0

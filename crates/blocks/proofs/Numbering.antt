@@ -1,27 +1,26 @@
 -- Numbering the blocks one by one. While an equation does not stand some block is ready: what a block is kept by reaches strictly less.
 -- Giving the lowest ready block the next number keeps what the plain statement says.
 use mathlib.Core.Path.{_≡_, refl, sym, _∙_}
-use mathlib.Core.Bool.{Bool, true, false, not, _&&_, _||_}
+use mathlib.Core.Bool.{Bool, true, false, not, _&&_}
 use mathlib.Core.List.{List}
-use mathlib.Core.Logic.{_⊎_, inl, inr}
 use Prim.Native.Nat.{ℕ, zero, suc, _+_, _<_, _≤_}
 use native.Mathlib.Numerals.{add-one}
 use native.Mathlib.Omega.{arith}
 use lib.Dec.{ltb, leb, eqb}
-use borrow.Author.Tests.{eqb-true, eqb-false, eq-eqb, ne-eqb}
+use borrow.Author.Tests.{eqb-true, eq-eqb, ne-eqb}
 use Rattle.laws.specs.Count.{bit, count, any}
-use Rattle.laws.specs.Tab.{tab, pick}
-use Rattle.laws.proofs.Tests.{test, tests, either, given, clash, true≢false, not-true, and-left, and-right, and-both}
+use Rattle.laws.specs.Tab.{tab}
+use Rattle.laws.proofs.Tests.{test, tests, given, clash, true≢false, not-true, and-left, and-right, and-both}
 use Rattle.laws.proofs.Search.{any-here, any-where, any-none}
 use Rattle.laws.proofs.Sum.{bit-true, bit-false, sum-bound}
 use Rattle.laws.proofs.Inject.{count-misses}
 use Rattle.laws.proofs.Tab.{getD-tab}
 use Rattle.table.specs.Model.{limit}
 use Rattle.pairing.specs.Pairing.{Rel}
-use Rattle.blocks.specs.Blocks.{Reaches, Shares}
+use Rattle.blocks.specs.Blocks.{Shares}
 use Rattle.blocks.specs.Blocks.Reaches.{here, step}
-use Rattle.blocks.specs.Handed.{at}
-use Rattle.blocks.specs.Steps.{Within, Closed, ways, both, keepsAt, waitsAt, Lowest, renumbered, Numbering, Numbered}
+use Rattle.blocks.specs.Handed.{at, Within, Closed}
+use Rattle.blocks.specs.Steps.{ways, both, keepsAt, waitsAt, Lowest, renumbered, Numbering, Numbered}
 use Rattle.blocks.proofs.Ways.{onward, ways-closed, ways-sound, ways-complete}
 
 not-so : (b : Bool) → not b ≡ true → b ≡ false
@@ -113,7 +112,8 @@ module _ (m : ℕ) (T : Rel) (num : ℕ → ℕ) (e : ℕ) where
   is-kept g h t = test (eqb (num e) 0) (λ z. rw (z, any-here {n = m} (keepsAt T num e) g h t)) (λ z. rw z)
 
   pub none-keeps : num e ≡ 0 → ((g : ℕ) → g < m → keepsAt T num e g ≡ false) → true ≡ waitsAt m T num e
-  none-keeps z none = rw (eq-eqb (num e) 0 z) (sym (so-not (not-true (λ t. given (any-where {n = m} (keepsAt T num e) t) (λ (g, h, k). absurd (true≢false (sym k ∙ none g h)))))))
+  none-keeps z none = rw (eq-eqb (num e) 0 z) (sym (so-not (not-true
+      (λ t. given (any-where {n = m} (keepsAt T num e) t) (λ (g, h, k). absurd (true≢false (sym k ∙ none g h)))))))
 
 -- the search for the lowest that waits: the equations below e are seen, and best is the lowest of them that waits, or m
 pub record Seeking (m : ℕ) (T : Rel) (num : ℕ → ℕ) (best e : ℕ) : Type 0 where
@@ -210,7 +210,9 @@ module _ {m : ℕ} {T : Rel} (C : Closed m T) {num : ℕ → ℕ} {k : ℕ} (N :
   same-next : (f g : ℕ) → f < m → g < m → 1 ≤ next f → next f ≡ next g → both T f g ≡ true
   same-next f g l u a q = test (eqb (next f) (suc k))
       (λ t. let z = eqb-true (next f) (suc k) t in both-trans C f e g (both-sym C e f (new f l z)) (new g u (sym q ∙ z)))
-      (λ t. let z = most-next f l in let x = old f l (omega (arith, tests)) in let y = old g u (omega (arith, tests)) in N .same f g l u (omega arith) (omega arith))
+      (λ t. let z = most-next f l in
+      let x = old f l (omega (arith, tests)) in
+      let y = old g u (omega (arith, tests)) in N .same f g l u (omega arith) (omega arith))
 
   shared-next : (f g : ℕ) → f < m → g < m → both T f g ≡ true → next f ≡ next g
   shared-next f g l u t = test (both T e f)
@@ -245,12 +247,14 @@ module _ {m : ℕ} {T : Rel} (C : Closed m T) {num : ℕ → ℕ} {k : ℕ} (N :
       -- the new block is the lowest of those that waited
       below : next f ≡ suc k → e ≤ g
       below z = test (ltb g e)
-          (λ t. clash (does-wait C num g (record { out = unplaced; rest = λ x s d. let n = r x s d in let v = old x (C .within .col g x s) (omega arith) in omega arith }))
-          (L .none g (omega (arith, tests))))
+          (λ t. clash (does-wait C num g (record { out = out; rest = rest })) (L .none g (omega (arith, tests))))
           (λ t. omega (arith, tests))
         where
-          unplaced : num g ≡ 0
-          unplaced = test (both T e g) (λ t. inside g u t .0) (λ t.
+          rest : (x : ℕ) → T g x ≡ true → T x g ≡ false → 1 ≤ num x
+          rest x s d = let n = r x s d in let v = old x (C .within .col g x s) (omega arith) in omega arith
+
+          out : num g ≡ 0
+          out = test (both T e g) (λ t. inside g u t .0) (λ t.
               let o = outside g u t in let n = N .most g u in
               test (eqb (num g) 0) (λ c. eqb-true (num g) 0 c) (λ c. let d = b (omega (arith, tests)) in absurd (omega arith)))
 

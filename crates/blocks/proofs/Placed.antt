@@ -1,7 +1,7 @@
 -- What the plain statement of a placing says: there is only one, each block stands after every other block that it needs,
 -- and it depends on what is reached alone.
 use mathlib.Core.Path.{_≡_, refl, sym, _∙_, ap}
-use mathlib.Core.Bool.{Bool, true, false}
+use mathlib.Core.Bool.{true}
 use mathlib.Core.Logic.{_⊎_, inl, inr}
 use Prim.Native.Nat.{ℕ, zero, suc, _<_, _≤_}
 use native.Mathlib.Omega.{arith}
@@ -11,8 +11,8 @@ use Rattle.laws.proofs.Tests.{test, tests, either, given}
 use Rattle.pairing.specs.Pairing.{Rel}
 use Rattle.blocks.specs.Blocks.{Reaches, Shares, Stands, Ready, before, Placed}
 use Rattle.blocks.specs.Blocks.Reaches.{here, step}
-use Rattle.blocks.specs.Steps.{Within}
-use Rattle.blocks.proofs.Ways.{onward, shares-self, shares-sym, shares-trans}
+use Rattle.blocks.specs.Handed.{Within}
+use Rattle.blocks.proofs.Ways.{shares-self}
 
 -- the numbers rise along the places
 module _ {m : ℕ} {R : Rel} {o b : ℕ → ℕ} {k : ℕ} (P : Placed m R o b k) where
@@ -86,7 +86,9 @@ module _ {m : ℕ} {R : Rel} {o b o′ b′ : ℕ → ℕ} {k k′ : ℕ} (P : P
           (λ t. omega (arith, tests))
 
       not-before : (g : ℕ) → g < m → b g ≡ b i → i ≤ g
-      not-before g u v = test (ltb g i) (λ t. let z = number-before P g i (omega (arith, tests)) (omega arith) in absurd (omega arith)) (λ t. omega (arith, tests))
+      not-before g u v = test (ltb g i)
+          (λ t. let z = number-before P g i (omega (arith, tests)) (omega arith) in absurd (omega arith))
+          (λ t. omega (arith, tests))
 
       stood : (g : ℕ) → Stands m o′ b′ (b′ i) g → Stands m o b (b i) g
       stood g r =

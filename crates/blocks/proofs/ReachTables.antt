@@ -1,12 +1,11 @@
 -- Tables of codes 1 and 0 and the relations that they hold.
-use mathlib.Core.Path.{_≡_, refl, sym, _∙_, ap}
+use mathlib.Core.Path.{_≡_, sym, _∙_, ap}
 use mathlib.Core.Bool.{true, not, _&&_}
 use mathlib.Core.List.{List, []}
-use Prim.Native.Nat.{ℕ, suc, _+_, _<_, _≤_}
+use Prim.Native.Nat.{ℕ, _+_, _<_, _≤_}
 use native.Mathlib.Numerals.{add-one}
 use native.Mathlib.Omega.{arith}
 use lib.Dec.{ltb, eqb}
-use lib.ListN.{getD}
 use borrow.Author.Tests.{ltb-true, ltb-false}
 use Rattle.laws.specs.Count.{bit}
 use Rattle.laws.specs.Tab.{tab}
@@ -17,8 +16,8 @@ use Rattle.table.proofs.Model.{square-at}
 use Rattle.pairing.specs.Pairing.{Rel}
 use Rattle.blocks.specs.Blocks.{needsAt, Reaches}
 use Rattle.blocks.specs.Blocks.Reaches.{here, step}
-use Rattle.blocks.specs.Handed.{Bits, ReachTable}
-use Rattle.blocks.specs.Steps.{Within, Closed, throughAt, throughCode, ways}
+use Rattle.blocks.specs.Handed.{Bits, ReachTable, Within, Closed}
+use Rattle.blocks.specs.Steps.{throughCode, ways}
 use Rattle.blocks.proofs.Ways.{onward, ways-closed, ways-sound, ways-complete}
 use Rattle.blocks.proofs.Tables.{through-bits}
 use Rattle.blocks.proofs.Placed.{Alike}

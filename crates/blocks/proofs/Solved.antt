@@ -1,7 +1,7 @@
 -- The placing as it is handed back: it follows from the numbers and places, holds for every relation that reaches the same, and there is only one.
-use mathlib.Core.Path.{_≡_, refl, sym, _∙_, ap}
+use mathlib.Core.Path.{_≡_, sym, _∙_, ap}
 use mathlib.Core.List.{List}
-use Prim.Native.Nat.{ℕ, _+_, _-_, _<_, _≤_}
+use Prim.Native.Nat.{ℕ, _-_, _<_, _≤_}
 use native.Mathlib.Omega.{arith}
 use lib.Dec.{ltb}
 use lib.ListN.{length, getD}
@@ -10,8 +10,8 @@ use borrow.Author.Tests.{ltb-true, ltb-false}
 use Rattle.laws.proofs.Tests.{test, given}
 use Rattle.table.specs.declared.number.Equation.{Equation}
 use Rattle.pairing.specs.Pairing.{Rel}
-use Rattle.blocks.specs.Handed.{at, equationNumber, Solved}
-use Rattle.blocks.specs.Steps.{Within, Closed, placeOf, Listed, Numbered}
+use Rattle.blocks.specs.Handed.{at, equationNumber, Solved, Within, Closed}
+use Rattle.blocks.specs.Steps.{Listed, Numbered}
 use Rattle.blocks.proofs.Placed.{Alike, placed-alike, one-placing, one-number}
 use Rattle.blocks.proofs.Rank.{place-onto}
 use Rattle.blocks.proofs.Listed.{Listing, placed}

@@ -1,6 +1,6 @@
 -- Tables of codes 1 and 0 as the functions fill them.
-use mathlib.Core.Path.{_≡_, refl, sym, _∙_, ap}
-use mathlib.Core.Bool.{Bool, true, false, not, _&&_, _||_}
+use mathlib.Core.Path.{_≡_, refl, sym, _∙_}
+use mathlib.Core.Bool.{not, _&&_}
 use mathlib.Core.List.{List, []}
 use Prim.Native.Nat.{ℕ, zero, suc, _+_, _<_, _≤_}
 use native.Mathlib.Omega.{arith}
@@ -10,9 +10,9 @@ use lib.Seq.{getD-set-same, getD-set-other}
 use borrow.Author.Tests.{eqb-true, eqb-false, eq-eqb, ne-eqb, lt-ltb, le-ltb, ltb-true, ltb-false}
 use Rattle.laws.specs.Count.{bit}
 use Rattle.laws.specs.Tab.{tab, pick, upto}
-use Rattle.laws.proofs.Tests.{test, tests}
+use Rattle.laws.proofs.Tests.{test}
 use Rattle.laws.proofs.Tab.{length-tab, getD-tab, is-tab, tab-ext, upto-below, upto-from, replicate-tab, fill-step, fill-end}
-use Rattle.table.specs.Model.{limit, codeAt, occursAt, square}
+use Rattle.table.specs.Model.{limit, codeAt, square}
 use Rattle.table.proofs.Model.{square-at}
 use Rattle.pairing.specs.Pairing.{Rel}
 use Rattle.blocks.specs.Blocks.{needsAt}
@@ -60,7 +60,8 @@ through-bits T t k p l = tab-ext limit (λ e. tab limit (throughCode t k e)) (λ
 
     at-each : (e g : ℕ) → e < limit → g < limit → throughCode t k e g ≡ bit (throughAt k T e g)
     at-each e g h b = rw (code e k h l, code e g h b, code k g l b)
-        (test (T e k) (λ x. test (T e g) (λ y. test (T k g) (λ z. rw (x, y, z)) (λ z. rw (x, y, z))) (λ y. test (T k g) (λ z. rw (x, y, z)) (λ z. rw (x, y, z))))
+        (test (T e k)
+        (λ x. test (T e g) (λ y. test (T k g) (λ z. rw (x, y, z)) (λ z. rw (x, y, z))) (λ y. test (T k g) (λ z. rw (x, y, z)) (λ z. rw (x, y, z))))
         (λ x. test (T e g) (λ y. rw (x, y)) (λ y. rw (x, y))))
 
 -- the needs, row by row

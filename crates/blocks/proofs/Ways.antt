@@ -1,18 +1,18 @@
 -- Reach, and how it is found: with equations below k let through, one more k at a time.
-use mathlib.Core.Path.{_≡_, refl, sym, _∙_}
-use mathlib.Core.Bool.{Bool, true, false, not, _&&_, _||_}
-use mathlib.Core.Logic.{_⊎_, inl, inr}
-use Prim.Native.Nat.{ℕ, zero, suc, _<_, _≤_}
+use mathlib.Core.Path.{_≡_, refl}
+use mathlib.Core.Bool.{true, _&&_}
+use Prim.Native.Nat.{ℕ, zero, suc, _<_}
 use native.Mathlib.Omega.{arith}
 use lib.Dec.{ltb, eqb}
-use borrow.Author.Tests.{eqb-true, eqb-false, eq-eqb, lt-ltb, ltb-true}
-use Rattle.laws.proofs.Tests.{test, tests, either, given, clash, and-left, and-right, and-both, or-cases, or-left, or-right}
+use borrow.Author.Tests.{eqb-true, eq-eqb, lt-ltb, ltb-true}
+use Rattle.laws.proofs.Tests.{test, tests, either, and-left, and-right, and-both, or-cases, or-left, or-right}
 use Rattle.pairing.specs.Pairing.{Rel}
-use Rattle.blocks.specs.Blocks.{needsAt, Reaches, Shares}
+use Rattle.blocks.specs.Blocks.{Reaches, Shares}
 use Rattle.blocks.specs.Blocks.Reaches.{here, step}
-use Rattle.blocks.specs.Steps.{Within, Closed, atOnce, throughAt, ways}
+use Rattle.blocks.specs.Handed.{Within, Closed}
+use Rattle.blocks.specs.Steps.{atOnce, throughAt, ways}
 
--- Reach is transitive, and sharing a block is an equivalence.
+-- Reach is transitive, and an equation shares its own block.
 pub onward : {R : Rel} {e f g : ℕ} → Reaches R e f → Reaches R f g → Reaches R e g
 onward here s = s
 onward (step x t r) s = step x t (onward r s)
@@ -20,14 +20,8 @@ onward (step x t r) s = step x t (onward r s)
 pub shares-self : {R : Rel} {e : ℕ} → Shares R e e
 shares-self = record { there = here; back = here }
 
-pub shares-sym : {R : Rel} {e f : ℕ} → Shares R e f → Shares R f e
-shares-sym s = record { there = s .back; back = s .there }
-
-pub shares-trans : {R : Rel} {e f g : ℕ} → Shares R e f → Shares R f g → Shares R e g
-shares-trans s t = record { there = onward (s .there) (t .there); back = onward (t .back) (s .back) }
-
 -- what a step of `through` gives, and what gives it
-pub through-cases : {A : Type 0} (k : ℕ) (T : Rel) (e g : ℕ) → throughAt k T e g ≡ true
+through-cases : {A : Type 0} (k : ℕ) (T : Rel) (e g : ℕ) → throughAt k T e g ≡ true
     → (T e g ≡ true → A) → (T e k ≡ true → T k g ≡ true → A) → A
 through-cases k T e g t a b =
     either (or-cases (T e g) (T e k && T k g) t) a (λ w. b (and-left (T e k) (T k g) w) (and-right (T e k) (T k g) w))

@@ -6,7 +6,7 @@ use Prim.Native.Nat.{ℕ, zero, suc, _<_, _≤_}
 use lib.Dec.{ltb, eqb}
 use Rattle.pairing.specs.Pairing.{Rel}
 
--- equation f needs equation g: they differ, and g's partner has a leading occurrence in f
+-- equation f needs equation g, both below m: they differ, and g's partner has a leading occurrence in f
 abbrev pub needsAt : ℕ → Rel → (ℕ → ℕ) → Rel
 needsAt m leading partner f g = ltb f m && (ltb g m && (not (eqb f g) && leading f (partner g)))
 
@@ -38,6 +38,7 @@ abbrev pub before : (ℕ → ℕ) → ℕ → ℕ
 before block zero = 0
 before block (suc i) = block i
 
+-- the blocks placed one by one
 pub record Placed (m : ℕ) (needs : Rel) (order block : ℕ → ℕ) (blocks : ℕ) : Type 0 where
   -- every equation has one place
   pub within : (i : ℕ) → i < m → order i < m

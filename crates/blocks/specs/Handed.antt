@@ -25,6 +25,17 @@ pub record Partnered (m : ℕ) (p : List Unknown) : Type 0 where
   pub few : m ≤ limit
   pub each : (e : ℕ) → e < m → Numbered (partnerOf p e)
 
+-- a relation between equations alone
+pub record Within (m : ℕ) (R : Rel) : Type 0 where
+  pub row : (e f : ℕ) → R e f ≡ true → e < m
+  pub col : (e f : ℕ) → R e f ≡ true → f < m
+
+-- a relation that reaches no more than it has
+pub record Closed (m : ℕ) (T : Rel) : Type 0 where
+  pub within : Within m T
+  pub self : (e : ℕ) → e < m → T e e ≡ true
+  pub onward : (e f g : ℕ) → T e f ≡ true → T f g ≡ true → T e g ≡ true
+
 -- a table of codes 1 and 0
 abbrev pub Bits : List (List ℕ) → Type 0
 Bits t = t ≡ square (λ e f. bit (occursAt t e f))

@@ -11,22 +11,11 @@ use Rattle.table.specs.declared.number.Equation.{Equation}
 use Rattle.pairing.specs.Pairing.{Rel}
 use Rattle.blocks.specs.Handed.{at, equationNumber}
 
--- only equations are in relation
-pub record Within (m : ℕ) (R : Rel) : Type 0 where
-  pub row : (e f : ℕ) → R e f ≡ true → e < m
-  pub col : (e f : ℕ) → R e f ≡ true → f < m
-
--- each equation, and what its relatives have, is in it already: nothing more is reached
-pub record Closed (m : ℕ) (T : Rel) : Type 0 where
-  pub within : Within m T
-  pub self : (e : ℕ) → e < m → T e e ≡ true
-  pub onward : (e f g : ℕ) → T e f ≡ true → T f g ≡ true → T e g ≡ true
-
 -- what is reached by no need or by one
 abbrev pub atOnce : ℕ → Rel → Rel
 atOnce m R e g = R e g || (ltb e m && eqb e g)
 
--- what is reached if the way may lead throughAt k besides
+-- what is reached if the way may lead through k besides
 abbrev pub throughAt : ℕ → Rel → Rel
 throughAt k T e g = T e g || (T e k && T k g)
 

@@ -1,5 +1,5 @@
 // Blocks: which equation needs which, the classes of equations that need each other, and the order in which they are solved.
 pub mod need;
-pub mod number;
+mod number;
 pub mod place;
 pub mod reach;

@@ -2,11 +2,10 @@
 use table::LIMIT;
 ghost use mathlib.Core.Path.{_≡_};
 ghost use Prim.Native.Nat.{_<_, _≤_};
-ghost use lib.ListN.{getD};
 ghost use Rattle.laws.specs.Tab.{tab};
 ghost use Rattle.table.specs.Model.{limit, occursAt};
-ghost use Rattle.blocks.specs.Handed.{at};
-ghost use Rattle.blocks.specs.Steps.{Closed, both, keepsAt, waitsAt, Lowest, renumbered, Numbered};
+ghost use Rattle.blocks.specs.Handed.{at, Closed};
+ghost use Rattle.blocks.specs.Steps.{both, keepsAt, waitsAt, Lowest, renumbered, Numbered};
 
 // For each equation the number of its block, and how many blocks there are.
 pub struct BlockNumbers {

@@ -6,9 +6,9 @@ ghost use lib.Dec.{eqb};
 ghost use lib.ListN.{getD};
 ghost use Rattle.laws.specs.Count.{bit};
 ghost use Rattle.laws.specs.Tab.{tab, pick};
-ghost use Rattle.table.specs.Model.{limit, codeAt, occursAt, square};
-ghost use Rattle.blocks.specs.Handed.{Bits, ReachTable};
-ghost use Rattle.blocks.specs.Steps.{Within, atOnce, either, throughCode};
+ghost use Rattle.table.specs.Model.{limit, occursAt, square};
+ghost use Rattle.blocks.specs.Handed.{Bits, ReachTable, Within};
+ghost use Rattle.blocks.specs.Steps.{atOnce, either, throughCode};
 
 // Each equation reaches itself, and at once what it needs.
 fn at_once(needs: &[[u8; LIMIT]; LIMIT], equations: usize) -> [[u8; LIMIT]; LIMIT]

@@ -10,7 +10,7 @@ use Rattle.laws.specs.Count.{bit, count, any}
 use Rattle.laws.proofs.Tests.{test, either, given, clash, tests, and-left, and-right, and-both}
 use Rattle.laws.proofs.Search.{seek, any-here, any-where}
 use Rattle.pairing.specs.Pairing.{Rel}
-use Rattle.pairing.proofs.Sizes.{count-less, all-count}
+use Rattle.laws.proofs.Counts.{count-less, all-count}
 use Rattle.counts.specs.Fit.{Fits, Least, indexOf}
 use Rattle.counts.proofs.High.{largest-most}
 use Rattle.counts.proofs.Fit.{met}

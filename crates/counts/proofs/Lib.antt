@@ -8,3 +8,4 @@ pub mod Placed
 pub mod Work
 pub mod Chosen
 pub mod Judged
+pub mod Pairs

@@ -22,7 +22,7 @@ use Rattle.pairing.specs.Holders.{holder, held, Reach, Found, Nothing, Asking}
 use Rattle.pairing.proofs.Hall.{reach-within}
 use Rattle.counts.specs.Fit.{leading}
 use Rattle.counts.specs.Work.{numberAt, topOrder, highAt, topsOf, leadingAt, leadingRows, Small, Ready, Chosen}
-use Rattle.counts.specs.Placing.{PlacedIn, raisedBy}
+use Rattle.counts.specs.Placing.{PlacedIn, Paired, raisedBy}
 use Rattle.counts.proofs.Over.{over-pairs, over-reach}
 use Rattle.counts.proofs.Raising.{Stuck, raised}
 use Rattle.counts.proofs.Placed.{begin, count-few, raise, nearer, least, paired}
@@ -82,18 +82,6 @@ module _ (n : ℕ) (t : List (List ℕ)) (counts : List ℕ) (small : n ≤ limi
   to-lead : (e u : ℕ) → rowsOf n t counts e u ≡ true → leadOf n t counts e u ≡ true
   to-lead e u o = given (rows-within n t counts (topsOf n t counts) small e u o) (λ (h, k). sym (same e u h k) ∙ o)
 
-  -- the search may be asked, and speaks of the n equations
-  pub asking : (m f : ℕ) (holders : List Equation) → n ≤ m → m ≤ limit → f < n → PlacedIn n t f counts holders
-      → Asking m n (rowsOf n t counts) f (replicate limit false) holders
-  asking m f holders more most b p = record {
-    equations = most;
-    unknowns = small;
-    asker = omega arith;
-    fresh = copies-at limit false f;
-    free = p .waiting f (omega arith);
-    ok = over-pairs more (p .pairs) (λ e u k. same e u (p .pairs .row e u k) (p .pairs .col e u k) ∙ p .pairs .fits e u k);
-  }
-
   -- a search that found nothing
   pub stuck : (f : ℕ) (holders : List Equation) (asked : List Bool) → f < n → PlacedIn n t f counts holders
       → Nothing n (rowsOf n t counts) f (replicate limit false) asked holders → Stuck n n (leadOf n t counts) (held holders) f (marked asked)
@@ -109,13 +97,20 @@ module _ (n : ℕ) (t : List (List ℕ)) (counts : List ℕ) (small : n ≤ limi
       reached : (e : ℕ) → marked asked e ≡ true → Reach (leadOf n t counts) (held holders) f e
       reached e m = either (none .reached e m) (λ before. clash before (copies-at limit false e)) (λ r. over-reach to-lead r)
 
-  -- a search that found
-  pub found : (f : ℕ) (holders holders′ : List Equation) → PlacedIn n t f counts holders
-      → Found n n (rowsOf n t counts) f (replicate limit false) holders holders′ → PlacedIn n t (f + 1) counts holders′
-  found f holders holders′ p got = record {
-    pairs = over-pairs (omega arith) (got .ok) (λ e u m. to-lead e u (got .ok .fits e u m));
-    placed = λ e h. test (eqb e f) (λ t. rw (eqb-true e f t) (got .gained)) (λ t. got .kept e (p .placed e (omega (arith, tests))));
-    waiting = λ e h u m. either (got .none-else e (u, m)) (λ z. absurd (omega arith)) (λ (v, k). p .waiting e (omega arith) v k);
+  -- what is kept, over the table of leading occurrences, and back
+  pub to-paired : (f : ℕ) (holders : List Equation) → PlacedIn n t f counts holders → Paired n (rowsOf n t counts) f (held holders)
+  to-paired f holders p = record {
+    pairs = over-pairs (omega arith) (p .pairs) (λ e u k. same e u (p .pairs .row e u k) (p .pairs .col e u k) ∙ p .pairs .fits e u k);
+    placed = p .placed;
+    waiting = p .waiting;
+  }
+
+  pub from-paired : (f f′ : ℕ) (holders holders′ : List Equation) → PlacedIn n t f counts holders → Paired n (rowsOf n t counts) f′ (held holders′)
+      → PlacedIn n t f′ counts holders′
+  from-paired f f′ holders holders′ p q = record {
+    pairs = over-pairs (omega arith) (q .pairs) (λ e u m. to-lead e u (q .pairs .fits e u m));
+    placed = q .placed;
+    waiting = q .waiting;
     low = p .low;
     room = p .room;
     beyond = p .beyond;

@@ -1,16 +1,17 @@
 -- What is kept while the counts are raised and the equations are paired one after another; inside this crate only.
 use mathlib.Core.Path.{_≡_}
-use mathlib.Core.Bool.{Bool, true}
+use mathlib.Core.Bool.{Bool, true, false}
 use mathlib.Core.List.{List}
 use Prim.Native.Nat.{ℕ, _+_, _*_, _<_, _≤_}
 use lib.Dec.{ltb}
+use lib.ListN.{replicate}
 use Rattle.laws.specs.Count.{bit, sum}
 use Rattle.laws.specs.Marks.{marked}
 use Rattle.laws.specs.Tab.{tab, pick}
 use Rattle.table.specs.Model.{limit, occursAt, orderAt}
 use Rattle.table.specs.declared.number.Equation.{Equation}
 use Rattle.pairing.specs.Pairing.{Rel, Pairing, LeftOver}
-use Rattle.pairing.specs.Holders.{held}
+use Rattle.pairing.specs.Holders.{held, Nothing}
 use Rattle.counts.specs.Fit.{Fits, high, leading}
 use Rattle.counts.specs.Work.{numberAt, topOrder}
 
@@ -31,3 +32,15 @@ PlacedIn n t f counts holders = Placed n (occursAt t) (orderAt t) f (numberAt co
 -- 1 more for each that is marked, as far as n, and 0 beyond
 abbrev pub raisedBy : ℕ → List ℕ → List Bool → List ℕ
 raisedBy n counts asked = tab limit (λ e. pick (ltb e n) (numberAt counts e + bit (marked asked e)) 0)
+
+-- the equations before place f are paired, and the others not yet
+pub record Paired (n : ℕ) (edge : Rel) (f : ℕ) (M : Rel) : Type 0 where
+  pub pairs : Pairing n n edge M
+  pub placed : (e : ℕ) → e < f → (u : ℕ) × (M e u ≡ true)
+  pub waiting : (e : ℕ) → f ≤ e → LeftOver M e
+
+-- how far the pairing went: all are paired, or the search of the equation at place f found nothing
+pub record Went (n : ℕ) (edge : Rel) (f : ℕ) (holders : List Equation) (asked : List Bool) : Type 0 where
+  pub upto : Paired n edge f (held holders)
+  pub far : f ≤ n
+  pub stopped : f < n → Nothing n edge f (replicate limit false) asked holders

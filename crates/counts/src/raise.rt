@@ -2,7 +2,6 @@
 // finds nothing, all that were asked are differentiated once more. Some pairing of all equations is what makes the raising end.
 use crate::lead::leading_rows;
 use crate::tops::tops;
-use pairing::search::Answer;
 use pairing::search::search;
 use table::LIMIT;
 use table::number::Equation;
@@ -12,14 +11,15 @@ ghost use Prim.Native.Nat.{ℕ, _+_, _-_, _*_, _<_, _≤_};
 ghost use lib.ListN.{replicate};
 ghost use Rattle.laws.specs.Count.{bit};
 ghost use Rattle.table.specs.Model.{limit, occursAt};
-ghost use Rattle.pairing.specs.Holders.{Searched};
-ghost use Rattle.counts.specs.Work.{numberAt, topOrder, topsOf, leadingRows, Ready, Chosen};
-ghost use Rattle.counts.specs.Placing.{PlacedIn, raisedBy};
+ghost use Rattle.pairing.specs.Holders.{held};
+ghost use Rattle.counts.specs.Work.{numberAt, topOrder, topsOf, leadingRows, Small, Ready, Chosen};
+ghost use Rattle.counts.specs.Placing.{PlacedIn, Paired, Went, raisedBy};
 
-// Counts on the way, and who holds each unknown: an equation's number, or 0.
-pub struct Settled {
-    pub counts: [u8; LIMIT],
-    pub holders: [Equation; LIMIT],
+// How far the equations are paired in turn, who holds each unknown (an equation's number, or 0), and whom the next equation asked in vain.
+struct Progress {
+    paired: usize,
+    holders: [Equation; LIMIT],
+    asked: [bool; LIMIT],
 }
 
 // The least counts by equation, the tops by unknown, and a full pairing over the leading occurrences, as holders.
@@ -51,64 +51,83 @@ fn raised(n: usize, counts: &[u8; LIMIT], asked: &[bool; LIMIT]) -> [u8; LIMIT]
     next
 }
 
-// A search from one equation over the leading occurrences of the counts, with nobody asked yet.
-fn attempt(
-    table: &[[u8; LIMIT]; LIMIT],
-    n: usize,
-    asker: Equation,
-    counts: &[u8; LIMIT],
-    holders: [Equation; LIMIT],
-) -> Answer
-    requires { ⌜ Ready n (now table) × (1 ≤ asker .0) × (asker .0 ≤ n) × PlacedIn n (now table) (asker .0 - 1) (now counts) holders ⌝ }
-    ensures { λ r. ⌜ Searched n n (occursAt (leadingRows n (now (table .entry)) (now (counts .entry)) (topsOf n (now (table .entry)) (now (counts .entry)))))
-        (asker .0 - 1) (replicate limit false) holders (r .got .0) (r .holders) (r .asked) ⌝ }
+// The table of leading occurrences of the counts with their tops.
+fn leading_of(table: &[[u8; LIMIT]; LIMIT], n: usize, counts: &[u8; LIMIT]) -> [[u8; LIMIT]; LIMIT]
+    requires { ⌜ Small n (now table) (now counts) ⌝ }
+    ensures { λ r. ⌜ r ≡ leadingRows n (now (table .entry)) (now (counts .entry)) (topsOf n (now (table .entry)) (now (counts .entry))) ⌝ }
 {
     let tops = tops(table, n, counts);
-    let leading = leading_rows(table, n, counts, &tops);
-    search(&leading, n, asker, holders, [false; LIMIT])
+    leading_rows(table, n, counts, &tops)
 }
 
-// One equation is paired, after as many raises as it takes. Each brings the tops' sum nearer to the counts' sum, and it never falls below that.
-fn settle(
+// The equations from one on are paired in turn over the leading occurrences, as far as that goes.
+fn pair_on(
+    leading: &[[u8; LIMIT]; LIMIT],
+    n: usize,
+    from: usize,
+    holders: [Equation; LIMIT],
+) -> Progress
+    requires { ⌜ (n ≤ limit) × (from ≤ n) × Paired n (occursAt (now leading)) from (held holders) ⌝ }
+    ensures { λ r. ⌜ Went n (occursAt (now (leading .entry))) (r .paired) (r .holders) (r .asked) ⌝ }
+{
+    let mut holders = holders;
+    let mut f = from;
+    while f < n {
+        let answer = search(leading, n, Equation::at(f), holders, [false; LIMIT]);
+        if answer.got.0 == 0 {
+            let asked = answer.asked;
+            return Progress {
+                paired: f,
+                holders,
+                asked,
+            };
+        }
+        holders = answer.holders;
+        f += 1;
+    }
+    Progress {
+        paired: n,
+        holders,
+        asked: [false; LIMIT],
+    }
+}
+
+// The answer, once all equations are paired: the counts with their tops.
+fn chosen(
     table: &[[u8; LIMIT]; LIMIT],
     n: usize,
-    asker: Equation,
     counts: [u8; LIMIT],
     holders: [Equation; LIMIT],
-) -> Settled
-    requires { ⌜ Ready n (now table) × (1 ≤ asker .0) × (asker .0 ≤ n) × PlacedIn n (now table) (asker .0 - 1) counts holders ⌝ }
-    ensures { λ r. ⌜ PlacedIn n (now (table .entry)) (asker .0) (r .counts) (r .holders) ⌝ }
+) -> Choice
+    requires { ⌜ Ready n (now table) × PlacedIn n (now table) n counts holders ⌝ }
+    ensures { λ r. ⌜ Chosen n (now (table .entry)) (r .counts) (r .tops) (r .holders) ⌝ }
 {
-    let mut counts = counts;
-    loop {
-        let found = attempt(table, n, asker, &counts, holders);
-        if found.got.0 != 0 {
-            let holders = found.holders;
-            return Settled { counts, holders };
-        }
-        let asked = found.asked;
-        counts = raised(n, &counts, &asked);
+    let tops = tops(table, n, &counts);
+    Choice {
+        counts,
+        tops,
+        holders,
     }
 }
 
 // The answer of document 01 for a solvable model of n equations: the fit choice whose every count is no larger than in any other fit choice.
+// Each raise brings the tops' sum nearer to the counts' sum, and it never falls below that.
 pub fn least(table: &[[u8; LIMIT]; LIMIT], n: usize) -> Choice
     requires { ⌜ Ready n (now table) ⌝ }
     ensures { λ r. ⌜ Chosen n (now (table .entry)) (r .counts) (r .tops) (r .holders) ⌝ }
 {
     let mut counts = [0u8; LIMIT];
     let mut holders = [Equation(0); LIMIT];
-    let mut f = 0;
-    while f < n {
-        let settled = settle(table, n, Equation::at(f), counts, holders);
-        counts = settled.counts;
-        holders = settled.holders;
-        f += 1;
-    }
-    let tops = tops(table, n, &counts);
-    Choice {
-        counts,
-        tops,
-        holders,
+    let mut paired = 0;
+    loop {
+        let leading = leading_of(table, n, &counts);
+        let progress = pair_on(&leading, n, paired, holders);
+        paired = progress.paired;
+        holders = progress.holders;
+        if paired == n {
+            return chosen(table, n, counts, holders);
+        }
+        let asked = progress.asked;
+        counts = raised(n, &counts, &asked);
     }
 }

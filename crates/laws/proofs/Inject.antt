@@ -1,11 +1,10 @@
 -- The weighted injection law: what is mapped one to one into places of at least its weight has at most their sum.
 -- Induction on the number of what is mapped: the last one's place is left out for the others.
-use mathlib.Core.Path.{_≡_, refl, sym}
-use mathlib.Core.Bool.{Bool, true, false, _&&_}
+use mathlib.Core.Path.{_≡_}
+use mathlib.Core.Bool.{Bool, true, _&&_}
 use mathlib.Core.Logic.{_⊎_, inl, inr}
-use Prim.Native.Nat.{ℕ, zero, suc, _+_, _<_, _≤_}
+use Prim.Native.Nat.{ℕ, zero, suc, _<_, _≤_}
 use native.Mathlib.Omega.{arith}
-use lib.Dec.{eqb}
 use Rattle.laws.specs.Count.{bit, sum, count}
 use Rattle.laws.proofs.Tests.{test, either, given, clash, and-left, and-right, and-both}
 use Rattle.laws.proofs.Search.{seek}

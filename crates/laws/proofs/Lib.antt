@@ -4,4 +4,5 @@ pub mod Tab
 pub mod Search
 pub mod Sum
 pub mod Inject
+pub mod Counts
 pub mod Marks

@@ -1,13 +1,13 @@
 -- Finite search: below a bound a test holds somewhere or nowhere.
 use mathlib.Core.Path.{_≡_, refl}
-use mathlib.Core.Bool.{Bool, true, false, not, _||_}
+use mathlib.Core.Bool.{Bool, true, false}
 use mathlib.Core.Logic.{_⊎_, inl, inr}
-use Prim.Native.Nat.{ℕ, zero, suc, _<_, _≤_}
+use Prim.Native.Nat.{ℕ, zero, suc, _<_}
 use native.Mathlib.Omega.{arith}
 use lib.Dec.{eqb}
-use borrow.Author.Tests.{eqb-true, eqb-false}
+use borrow.Author.Tests.{eqb-true}
 use Rattle.laws.specs.Count.{any}
-use Rattle.laws.proofs.Tests.{test, either, tests, or-cases, or-left, or-right, clash}
+use Rattle.laws.proofs.Tests.{test, either, tests, or-left, or-right, clash}
 
 -- the least i below n that has p i, or a refutation
 pub seek : (n : ℕ) (p : ℕ → Bool)
@@ -34,3 +34,7 @@ any-where {n} p t = either (seek n p) (λ (i, h, e, l). (i, h, e)) (λ none. cla
 
 pub any-none : {n : ℕ} (p : ℕ → Bool) → any n p ≡ false → (i : ℕ) → i < n → p i ≡ false
 any-none {n} p f i h = test (p i) (λ t. clash (any-here p i h t) f) (λ e. e)
+
+pub any-same : (n : ℕ) (p q : ℕ → Bool) → ((i : ℕ) → i < n → p i ≡ q i) → any n p ≡ any n q
+any-same zero p q h = refl
+any-same (suc n) p q h = let a = h n (omega arith) in let b = any-same n p q (λ i k. h i (omega arith)) in cc

@@ -1,7 +1,6 @@
 -- Laws of lists given by a function of the place, and of a loop that fills one place after another.
 use mathlib.Core.Path.{_≡_, refl, ap, sym, _∙_}
-use mathlib.Core.Bool.{Bool, true, false}
-use mathlib.Core.List.{List, [], _∷_}
+use mathlib.Core.List.{List, _∷_}
 use Prim.Native.Nat.{ℕ, zero, suc, _≤_, _<_, _+_}
 use native.Mathlib.Omega.{arith}
 use native.Mathlib.Nat.{le-of-suc-le-suc, not-suc-le-zero}
@@ -9,7 +8,7 @@ use lib.Dec.{ltb, eqb}
 use lib.ListN.{length, getD, set, replicate, length-set, List·getD-eq-default}
 use lib.Seq.{ext-getD, getD-set-same, getD-set-other}
 use borrow.Author.Tests.{lt-ltb, le-ltb, eqb-true, eqb-false}
-use Rattle.laws.specs.Tab.{tab, pick, upto}
+use Rattle.laws.specs.Tab.{tab, upto}
 use Rattle.laws.proofs.Tests.{test, tests}
 
 module _ {A : Type 0} where

@@ -1,5 +1,5 @@
 -- Sums, counts and finite search below a bound.
-use mathlib.Core.Bool.{Bool, true, false, not, _||_, _&&_}
+use mathlib.Core.Bool.{Bool, true, false, _||_}
 use Prim.Native.Nat.{ℕ, zero, suc, _+_}
 
 abbrev pub bit : Bool → ℕ

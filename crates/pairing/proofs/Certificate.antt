@@ -5,22 +5,19 @@
 use mathlib.Core.Path.{_≡_, refl, sym, ap, _∙_}
 use mathlib.Core.Bool.{Bool, true, false, not, _&&_}
 use mathlib.Core.Logic.{_↔_}
-use Prim.Native.Nat.{ℕ, zero, suc, _+_, _-_, _<_, _≤_}
+use Prim.Native.Nat.{ℕ, _+_, _-_, _<_, _≤_}
 use native.Mathlib.Omega.{arith}
 use native.Mathlib.Nat.{le-antisymm}
 use Rattle.laws.specs.Count.{bit, count, any}
 use Rattle.laws.proofs.Tests.{test, given, clash, not-false, and-left, and-right, and-both, same-test}
-use Rattle.laws.proofs.Search.{any-here, any-where}
+use Rattle.laws.proofs.Search.{any-here, any-where, any-same}
 use Rattle.laws.proofs.Sum.{sum-same, sum-add}
+use Rattle.laws.proofs.Counts.{count-not}
 use Rattle.laws.proofs.Inject.{count-inject, count-misses}
 use Rattle.pairing.specs.Pairing.{Rel, Pairing, size, Largest, Rank, LeftOver, Surplus}
 use Rattle.pairing.specs.Left.{Certificate}
 use Rattle.pairing.proofs.Along.{reached-surplus}
-use Rattle.pairing.proofs.Sizes.{count-not, size-rows, has-pair, no-pair, largest-size}
-
-any-same : (n : ℕ) (p q : ℕ → Bool) → ((i : ℕ) → i < n → p i ≡ q i) → any n p ≡ any n q
-any-same zero p q h = refl
-any-same (suc n) p q h = let a = h n (omega arith) in let b = any-same n p q (λ i k. h i (omega arith)) in cc
+use Rattle.pairing.proofs.Sizes.{size-rows, has-pair, no-pair, largest-size}
 
 -- where the equation e of a pairing Q goes in M
 data Goes (M Q : Rel) (X : ℕ → Bool) (e g : ℕ) : Type 0 where

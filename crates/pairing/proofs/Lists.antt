@@ -15,7 +15,7 @@ use Rattle.laws.specs.Count.{count}
 use Rattle.laws.proofs.Tests.{test, tests, either, given, clash}
 use Rattle.pairing.specs.Pairing.{Listed}
 use Rattle.pairing.specs.Members.{members}
-use Rattle.pairing.proofs.Sizes.{count-within}
+use Rattle.laws.proofs.Counts.{count-within}
 
 -- places of one list are places of the other, with the same number
 module _ {n : ℕ} {P : ℕ → Type 0} {l l′ : List ℕ} (a : Listed n P l) (b : Listed n P l′) where

@@ -1,13 +1,13 @@
 -- The two passes of a search: what holds of the unknowns passed so far, and what a hit and an end tell.
-use mathlib.Core.Path.{_≡_, refl, sym, _∙_}
+use mathlib.Core.Path.{_≡_, refl}
 use mathlib.Core.Bool.{Bool, true, false}
 use mathlib.Core.List.{List}
-use Prim.Native.Nat.{ℕ, suc, _+_, _-_, _<_, _≤_}
+use Prim.Native.Nat.{ℕ, _+_, _-_, _<_, _≤_}
 use native.Mathlib.Omega.{arith}
-use lib.Dec.{eqb, ltb}
-use borrow.Author.Tests.{eqb-true, eqb-false}
+use lib.Dec.{eqb}
+use borrow.Author.Tests.{eqb-true}
 use Rattle.laws.specs.Marks.{marked}
-use Rattle.laws.proofs.Tests.{test, tests, clash}
+use Rattle.laws.proofs.Tests.{test, tests}
 use Rattle.table.specs.declared.number.Equation.{Equation}
 use Rattle.pairing.specs.Pairing.{Rel}
 use Rattle.pairing.specs.Holders.{holder}

@@ -3,19 +3,19 @@ use mathlib.Core.Path.{_≡_, sym, ap, _∙_}
 use mathlib.Core.Bool.{Bool, true, false, not}
 use mathlib.Core.List.{List}
 use mathlib.Core.Logic.{_↔_}
-use Prim.Native.Nat.{ℕ, suc, _-_, _<_, _≤_}
+use Prim.Native.Nat.{ℕ, suc, _-_, _<_}
 use native.Mathlib.Omega.{arith}
 use lib.Dec.{eqb}
-use lib.ListN.{length, getD}
+use lib.ListN.{length}
 use lib.Seq.{ext-getD}
 use borrow.Author.Tests.{eqb-true, eqb-false, eq-eqb}
 use Rattle.laws.specs.Count.{bit, count, any}
 use Rattle.laws.specs.Marks.{marked}
-use Rattle.laws.proofs.Tests.{test, given, clash, not-true, same-test}
+use Rattle.laws.proofs.Tests.{test, given, not-true, same-test}
 use Rattle.laws.proofs.Search.{any-here, any-where}
 use Rattle.laws.proofs.Sum.{sum-same}
 use Rattle.table.specs.declared.number.Equation.{Equation}
-use Rattle.pairing.specs.Pairing.{Rel, turn, Pairing, size, Rank, Surplus, Unfixed}
+use Rattle.pairing.specs.Pairing.{Rel, turn, Pairing, size}
 use Rattle.pairing.specs.Holders.{holder, held, Reach, start, step}
 use Rattle.pairing.specs.Left.{Certificate, LeftIs}
 use Rattle.pairing.proofs.Sizes.{size-turned, rank-one}

@@ -1,14 +1,13 @@
 -- Each equation searches once, those that a failed search asked staying asked: what holds after the first i of them.
 -- X, the equations asked by failed searches, is closed: a search that finds leaves alone what X holds, and one that does not adds what it asked.
 -- When all have searched, X is the certificate of a largest pairing.
-use mathlib.Core.Path.{_≡_, sym, _∙_}
+use mathlib.Core.Path.{_≡_}
 use mathlib.Core.Bool.{Bool, true, false}
 use mathlib.Core.List.{List}
-use mathlib.Core.Logic.{_⊎_, inl, inr}
 use Prim.Native.Nat.{ℕ, suc, _+_, _<_, _≤_}
 use native.Mathlib.Omega.{arith}
 use lib.Dec.{eqb}
-use borrow.Author.Tests.{eqb-true, eqb-false}
+use borrow.Author.Tests.{eqb-true}
 use Rattle.laws.specs.Marks.{marked}
 use Rattle.laws.proofs.Tests.{test, tests, either, given, clash, not-true}
 use Rattle.table.specs.Model.{limit}

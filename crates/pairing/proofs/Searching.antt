@@ -1,10 +1,10 @@
 -- One search, step by step (DESIGN 4 in code): an unknown changes hands and the pairing stays a pairing; what the asked holder's
 -- own search tells is carried over to the asker's.
-use mathlib.Core.Path.{_≡_, refl, sym, ap, _∙_}
+use mathlib.Core.Path.{_≡_, sym, ap, _∙_}
 use mathlib.Core.Bool.{Bool, true, false}
 use mathlib.Core.List.{List}
 use mathlib.Core.Logic.{_⊎_, inl, inr}
-use Prim.Native.Nat.{ℕ, suc, _+_, _-_, _<_, _≤_}
+use Prim.Native.Nat.{ℕ, suc, _-_, _<_, _≤_}
 use native.Mathlib.Omega.{arith}
 use lib.Dec.{eqb, ltb}
 use lib.ListN.{length, getD, set}
@@ -15,8 +15,8 @@ use Rattle.laws.proofs.Tests.{test, tests, either, given, clash}
 use Rattle.laws.proofs.Marks.{mark-here, mark-keeps, mark-only, falses-fall}
 use Rattle.table.specs.Model.{limit, Numbered}
 use Rattle.table.specs.declared.number.Equation.{Equation}
-use Rattle.pairing.specs.Pairing.{Rel, Pairing, LeftOver}
-use Rattle.pairing.specs.Holders.{holder, held, Holds, Reach, start, step, Found, Nothing, Asking, Searched}
+use Rattle.pairing.specs.Pairing.{Rel}
+use Rattle.pairing.specs.Holders.{holder, held, Reach, start, step, Found, Nothing, Asking, Searched}
 use Rattle.pairing.specs.Looking.{FreeIn, AllHeld, NextIn}
 use Rattle.pairing.proofs.Give.{Given, given-pairing}
 

@@ -1,6 +1,6 @@
 -- One equation after the other has the first unknown that it can have; at the end that is the first full pairing.
-use mathlib.Core.Path.{_≡_, refl, sym, ap, _∙_}
-use mathlib.Core.Bool.{Bool, true, false}
+use mathlib.Core.Path.{_≡_, refl, ap, _∙_}
+use mathlib.Core.Bool.{true, false}
 use mathlib.Core.List.{List}
 use Prim.Native.Nat.{ℕ, suc, _+_, _-_, _<_, _≤_}
 use native.Mathlib.Omega.{arith}
@@ -14,7 +14,7 @@ use Rattle.table.specs.declared.number.Equation.{Equation}
 use Rattle.table.specs.declared.number.Unknown.{Unknown}
 use Rattle.pairing.specs.Pairing.{Rel, Full}
 use Rattle.pairing.specs.Holders.{held}
-use Rattle.pairing.specs.First.{Partners, First, partnerOf, FirstIs}
+use Rattle.pairing.specs.First.{partnerOf, FirstIs}
 use Rattle.pairing.specs.Choosing.{HeldBy, Keeps, Tried, Settled}
 use Rattle.pairing.proofs.Choice.{full-chosen, full-partners, partners-of, lowest}
 use Rattle.pairing.proofs.Trying.{owns}

@@ -1,48 +1,16 @@
 -- Sizes of pairings, each by a one-to-one map or a sum: read the other way a pairing has the same size, none is larger than m or n,
 -- and one of size m takes in every equation.
-use mathlib.Core.Path.{_≡_, refl, sym, _∙_}
-use mathlib.Core.Bool.{Bool, true, false, not}
-use Prim.Native.Nat.{ℕ, zero, suc, _+_, _<_, _≤_}
+use mathlib.Core.Path.{_≡_, sym, _∙_}
+use mathlib.Core.Bool.{true, false}
+use Prim.Native.Nat.{ℕ, _<_, _≤_}
 use native.Mathlib.Omega.{arith}
 use native.Mathlib.Nat.{le-antisymm}
-use Rattle.laws.specs.Count.{bit, count, any}
-use Rattle.laws.proofs.Tests.{test, given, clash, not-true}
+use Rattle.laws.specs.Count.{any}
+use Rattle.laws.proofs.Tests.{given, not-true}
 use Rattle.laws.proofs.Search.{any-here, any-where}
-use Rattle.laws.proofs.Sum.{sum-at-most, bit-true}
-use Rattle.laws.proofs.Inject.{count-inject, count-misses}
+use Rattle.laws.proofs.Counts.{count-within, count-all, all-count, count-mono, count-less}
+use Rattle.laws.proofs.Inject.{count-inject}
 use Rattle.pairing.specs.Pairing.{Rel, turn, Pairing, size, Largest, Rank, Full, LeftOver}
-
--- those that have it and those that do not are all
-pub count-not : (n : ℕ) (p : ℕ → Bool) → count n p + count n (λ i. not (p i)) ≡ n
-count-not zero p = refl
-count-not (suc n) p =
-    let r = count-not n p in
-    test (p n) (λ t. rw t (omega arith)) (λ f. rw f (omega arith))
-
-pub count-within : (n : ℕ) (p : ℕ → Bool) → count n p ≤ n
-count-within n p = let e = count-not n p in omega arith
-
--- all have it where the count is n
-pub count-all : (n : ℕ) (p : ℕ → Bool) → count n p ≡ n → (i : ℕ) → i < n → p i ≡ true
-count-all n p e i h = test (p i) (λ t. t)
-    (λ f.
-    let all = count-not n p in
-    let one = sum-at-most n (λ k. bit (not (p k))) i h in
-    let this = bit-true {b = not (p i)} (rw f) in
-    absurd (omega arith))
-
-pub all-count : (n : ℕ) (p : ℕ → Bool) → ((i : ℕ) → i < n → p i ≡ true) → count n p ≡ n
-all-count zero p h = refl
-all-count (suc n) p h = let r = all-count n p (λ i b. h i (omega arith)) in let e = bit-true (h n (omega arith)) in omega arith
-
--- fewer have p where each that has it has q, and strictly fewer where one has q alone
-pub count-mono : (n : ℕ) (p q : ℕ → Bool) → ((i : ℕ) → i < n → p i ≡ true → q i ≡ true) → count n p ≤ count n q
-count-mono n p q f = count-inject n n p q (λ i j. i ≡ j) (λ i i′ j a b. a ∙ sym b) (λ i h t. (i, h, refl, f i h t))
-
-pub count-less : (n : ℕ) (p q : ℕ → Bool) → ((i : ℕ) → i < n → p i ≡ true → q i ≡ true)
-    → (k : ℕ) → k < n → q k ≡ true → p k ≡ false → count n p < count n q
-count-less n p q f k h t none = count-misses n n p q (λ i j. i ≡ j) (λ i i′ j a b. a ∙ sym b) (λ i b s. (i, b, refl, f i b s)) k h t
-    (λ i b s e. clash (rw e at s) none)
 
 -- equations and unknowns exchanged
 pub turned : {m n : ℕ} {edge M : Rel} → Pairing m n edge M → Pairing n m (turn edge) (turn M)

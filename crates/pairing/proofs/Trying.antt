@@ -4,7 +4,6 @@
 use mathlib.Core.Path.{_≡_, refl, sym, ap, _∙_}
 use mathlib.Core.Bool.{Bool, true, false, not}
 use mathlib.Core.List.{List}
-use mathlib.Core.Logic.{_⊎_, inl, inr}
 use Prim.Native.Nat.{ℕ, suc, _+_, _-_, _<_, _≤_}
 use native.Mathlib.Omega.{arith}
 use lib.Dec.{eqb, ltb}
@@ -17,15 +16,13 @@ use Rattle.laws.proofs.Tests.{test, tests, given, clash, true≢false, not-true
 use Rattle.laws.proofs.Tab.{getD-tab, getD-past, tab-ext, replicate-tab, fill-start, fill-step}
 use Rattle.table.specs.Model.{limit}
 use Rattle.table.specs.declared.number.Equation.{Equation}
-use Rattle.pairing.specs.Pairing.{Rel, Pairing, Full, LeftOver}
-use Rattle.pairing.specs.Holders.{holder, held, Holds, Asking, Searched, Found}
-use Rattle.pairing.specs.First.{Partners}
-use Rattle.pairing.specs.Choosing.{HeldBy, Keeps, Tried, Settled}
+use Rattle.pairing.specs.Pairing.{Rel, Full}
+use Rattle.pairing.specs.Holders.{holder, held, Asking, Searched, Found}
+use Rattle.pairing.specs.Choosing.{HeldBy, Keeps, Tried}
 use Rattle.pairing.proofs.Sizes.{full-turned}
 use Rattle.pairing.proofs.Give.{Given}
 use Rattle.pairing.proofs.Searching.{giving, asks, moves}
 use Rattle.pairing.proofs.Hall.{refuted}
-use Rattle.pairing.proofs.Choice.{full-partners, lowest}
 
 -- the equations before place k, as marks
 abbrev pub marks : ℕ → List Bool

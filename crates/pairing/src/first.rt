@@ -6,7 +6,6 @@ use table::number::Equation;
 use table::number::Unknown;
 use table::rows::occurs;
 ghost use mathlib.Core.Path.{_≡_};
-ghost use mathlib.Core.Bool.{Bool};
 ghost use Prim.Native.Nat.{_-_, _<_, _≤_};
 ghost use lib.Dec.{ltb};
 ghost use Rattle.laws.specs.Tab.{tab};

@@ -4,7 +4,6 @@ use table::LIMIT;
 use table::number::Equation;
 use table::number::Unknown;
 use table::rows::occurs;
-ghost use mathlib.Core.Path.{_≡_};
 ghost use Prim.Native.Nat.{ℕ, _-_, _≤_};
 ghost use Rattle.table.specs.Model.{limit, Numbered, occursAt};
 ghost use Rattle.pairing.specs.Holders.{Asking, Searched};

@@ -1,16 +1,16 @@
 -- What the definitions of specs/Model say of numbers.
-use mathlib.Core.Path.{_≡_, refl, sym, _∙_, ap}
-use mathlib.Core.Bool.{Bool, true, false, _&&_}
-use mathlib.Core.List.{List, [], _∷_}
-use Prim.Native.Nat.{ℕ, zero, suc, _+_, _*_, _≤_, _<_}
-use native.Mathlib.Nat.{mul-le-mul, suc-mul, add-comm, mul-le-mul-right}
+use mathlib.Core.Path.{_≡_, _∙_}
+use mathlib.Core.Bool.{true, false}
+use mathlib.Core.List.{List, []}
+use Prim.Native.Nat.{ℕ, suc, _+_, _*_, _≤_, _<_}
+use native.Mathlib.Nat.{suc-mul, mul-le-mul-right}
 use native.Mathlib.Omega.{arith}
 use lib.Dec.{leb, eqb, ltb}
 use lib.ListN.{length, getD, drop, drop-of-length-le, replicate}
 use lib.Seq.{drop-cons}
 use borrow.Author.Tests.{lt-ltb, ltb-true, ltb-false}
 use Rattle.laws.specs.Tab.{tab, pick, upto}
-use Rattle.laws.proofs.Tests.{test, tests, clash, and-left, and-right}
+use Rattle.laws.proofs.Tests.{test, tests, and-left, and-right}
 use Rattle.laws.proofs.Tab.{getD-tab, tab-ext, upto-below, upto-from, replicate-tab}
 use Rattle.table.specs.Model.{limit, topCode, countedIn, inLimits, wellSized, firstAbove, codeAt, square, lentCode, rowsOf}
 

@@ -2,7 +2,7 @@
 use crate::LIMIT;
 ghost use mathlib.Core.Path.{_≡_};
 ghost use Prim.Native.Nat.{_+_, _-_, _<_, _≤_};
-ghost use Rattle.table.specs.Model.{limit, Numbered};
+ghost use Rattle.table.specs.Model.{limit};
 
 pub struct Equation(pub u8);
 

@@ -8,8 +8,8 @@ ghost use lib.ListN.{length, getD};
 ghost use lib.Dec.{ltb};
 ghost use mathlib.Core.List.{[]};
 ghost use Rattle.laws.specs.Tab.{tab, pick};
-ghost use Rattle.table.specs.Model.{limit, Numbered, codeAt, occursAt, lentCode, rowsOf, turned, wellSized};
-ghost use mathlib.Core.Bool.{Bool, true};
+ghost use Rattle.table.specs.Model.{limit, Numbered, codeAt, occursAt, rowsOf, turned, wellSized};
+ghost use mathlib.Core.Bool.{true};
 
 // One row: byte e × U + u of the lent table at place u, and 0 beyond the last unknown.
 fn lent_row(unknowns: usize, table: &[u8], at: usize) -> [u8; LIMIT]

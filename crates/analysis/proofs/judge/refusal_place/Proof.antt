@@ -4,9 +4,6 @@ use borrow.Author.Tests.{eq-eqb, ne-eqb}
 use borrow.Author.Needs.{needs}
 use Rattle.analysis.proofs.judge.refusal_place.Statement.{statement}
 use Rattle.analysis.proofs.judge.refusal_place.Tie as tie
-use Rattle.analysis.proofs.judge.refusal_place.Reads as reads
-use Rattle.analysis.proofs.judge.refusal_place.Lts as lts
-use Rattle.table.proofs.judge.first_above.Reads as first-above-reads
 
 first-above-requires : tie.Need-first-above-requires
 first-above-requires c κs = search needs

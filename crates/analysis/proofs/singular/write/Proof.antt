@@ -7,10 +7,6 @@ use Rattle.analysis.proofs.Put.{put-five}
 use borrow.Author.Needs.{needs}
 use Rattle.analysis.proofs.singular.write.Statement.{statement}
 use Rattle.analysis.proofs.singular.write.Tie as tie
-use Rattle.analysis.proofs.singular.write.Reads as reads
-use Rattle.analysis.proofs.singular.write.Lts as lts
-use Rattle.analysis.proofs.strip.listed.Reads as listed-reads
-use Rattle.analysis.proofs.strip.unused.Reads as unused-reads
 
 sub-listed : tie.Need-sub-listed
 sub-listed c = search needs
@@ -98,9 +94,15 @@ same-length c = search needs
 
 returns : tie.Need-returns
 returns c =
-    let start = c .before .before .before .before .before .before .before .before .before .before .before .before .before .before .before .before .before .before .before .before .before .args in
-    put-five (start .answer .now) (map suc (members (start .equations) (marked (start .surplus)))) (map suc (members (start .unknowns) (marked (start .unfixed)))) [] [] []
-    (c .before .before .before .before .before .before .before .before .before .before .before .before .before .before .before .before .before .before .listed .ensures) (c .before .before .before .before .before .before .before .before .before .before .before .before .before .before .listed2 .ensures) (c .before .before .before .before .before .before .before .before .before .before .unused .ensures) (c .before .before .before .before .before .before .unused2 .ensures) (c .before .before .unused3 .ensures)
+    let w5 = c .before .before in
+    let w4 = w5 .before .before .before .before in
+    let w3 = w4 .before .before .before .before in
+    let w2 = w3 .before .before .before .before in
+    let w1 = w2 .before .before .before .before in
+    let start = w1 .before .before .before .args in
+    put-five (start .answer .now) (map suc (members (start .equations) (marked (start .surplus))))
+    (map suc (members (start .unknowns) (marked (start .unfixed)))) [] [] []
+    (w1 .listed .ensures) (w2 .listed2 .ensures) (w3 .unused .ensures) (w4 .unused2 .ensures) (w5 .unused3 .ensures)
 
 pub write-spec : {M : Type 1} → statement M
 write-spec =

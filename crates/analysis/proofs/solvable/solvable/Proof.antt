@@ -3,11 +3,6 @@ use Rattle.analysis.proofs.Solution.{is-solved}
 use borrow.Author.Needs.{needs}
 use Rattle.analysis.proofs.solvable.solvable.Statement.{statement}
 use Rattle.analysis.proofs.solvable.solvable.Tie as tie
-use Rattle.analysis.proofs.solvable.solvable.Reads as reads
-use Rattle.analysis.proofs.solvable.solvable.Lts as lts
-use Rattle.analysis.proofs.number.pack.Reads as pack-reads
-use Rattle.analysis.proofs.solvable.solve.Reads as solve-reads
-use Rattle.analysis.proofs.solvable.write.Reads as write-reads
 
 solve-requires : tie.Need-solve-requires
 solve-requires c κs = search needs
@@ -29,7 +24,8 @@ returns c =
     let start = c .before .before .before .before .before .before .before .before .before .before .before .before in
     let solution = c .before .before .before .before .before .before .before .before .before .before .solve in
     let r = solution .result in
-    is-solved (start .args .n) (start .args .rows .now) (r .counts) (r .tops) (r .partners) (r .order) (r .block) (r .index) (r .freedom) (r .blocks) (solution .ensures)
+    is-solved (start .args .n) (start .args .rows .now) (r .counts) (r .tops) (r .partners) (r .order) (r .block)
+    (r .index) (r .freedom) (r .blocks) (solution .ensures)
     (start .args .answer .now) (search needs) (c .pack .ensures) (c .before .before .before .write .ensures)
 
 pub solvable-spec : {M : Type 1} → statement M

@@ -4,14 +4,6 @@ use Rattle.blocks.proofs.FirstPartners.{first-partnered}
 use borrow.Author.Needs.{needs}
 use Rattle.analysis.proofs.solvable.solve.Statement.{statement}
 use Rattle.analysis.proofs.solvable.solve.Tie as tie
-use Rattle.analysis.proofs.solvable.solve.Reads as reads
-use Rattle.analysis.proofs.solvable.solve.Lts as lts
-use Rattle.blocks.proofs.place.solve_order.Reads as solve-order-reads
-use Rattle.counts.proofs.figures.freedom.Reads as freedom-reads
-use Rattle.counts.proofs.figures.index.Reads as index-reads
-use Rattle.counts.proofs.lead.leading_rows.Reads as leading-rows-reads
-use Rattle.counts.proofs.raise.least.Reads as least-reads
-use Rattle.pairing.proofs.first.first.Reads as first-reads
 
 least-requires : tie.Need-least-requires
 least-requires c κs = search needs
@@ -27,11 +19,15 @@ first-requires : tie.Need-first-requires
 first-requires c κs =
     let start = c .before .before .before .before .before .before .before .before in
     let choice = c .before .before .before .before .before .before .before .least in
-    let r = choice .result in
-    (start .pre .within, rw (c .before .leading-rows .ensures) (chosen-full (start .args .n) (start .args .rows .now) (start .pre) (r .counts) (r .tops) (r .holders) (choice .ensures)))
+    let r = choice .result in (
+      start .pre .within,
+      rw (c .before .leading-rows .ensures)
+          (chosen-full (start .args .n) (start .args .rows .now) (start .pre) (r .counts) (r .tops) (r .holders) (choice .ensures)),
+    )
 
 solve-order-requires : tie.Need-solve-order-requires
-solve-order-requires c κs = first-partnered (c .before .before .before .before .before .before .before .before .before .before .pre .within) (c .before .first .ensures)
+solve-order-requires c κs = first-partnered (c .before .before .before .before .before .before .before .before .before .before .pre .within)
+    (c .before .first .ensures)
 
 index-requires : tie.Need-index-requires
 index-requires c κs = search needs

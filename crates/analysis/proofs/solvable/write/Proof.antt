@@ -6,11 +6,6 @@ use Rattle.analysis.proofs.Put.{put-five}
 use borrow.Author.Needs.{needs}
 use Rattle.analysis.proofs.solvable.write.Statement.{statement}
 use Rattle.analysis.proofs.solvable.write.Tie as tie
-use Rattle.analysis.proofs.solvable.write.Reads as reads
-use Rattle.analysis.proofs.solvable.write.Lts as lts
-use Rattle.analysis.proofs.strip.equations.Reads as equations-reads
-use Rattle.analysis.proofs.strip.numbers.Reads as numbers-reads
-use Rattle.analysis.proofs.strip.unknowns.Reads as unknowns-reads
 
 sub-numbers : tie.Need-sub-numbers
 sub-numbers c = search needs
@@ -98,11 +93,16 @@ same-length c = search needs
 
 returns : tie.Need-returns
 returns c =
-    let start = c .before .before .before .before .before .before .before .before .before .before .before .before .before .before .before .before .before .before .before .before .before .args in
+    let w5 = c .before .before in
+    let w4 = w5 .before .before .before .before in
+    let w3 = w4 .before .before .before .before in
+    let w2 = w3 .before .before .before .before in
+    let w1 = w2 .before .before .before .before in
+    let start = w1 .before .before .before .args in
     let n = start .n in
     put-five (start .answer .now) (take n (start .counts)) (take n (start .tops)) (take n (map unknownNumber (start .partners)))
     (take n (map equationNumber (start .order))) (take n (start .block))
-    (c .before .before .before .before .before .before .before .before .before .before .before .before .before .before .before .before .before .before .numbers .ensures) (c .before .before .before .before .before .before .before .before .before .before .before .before .before .before .numbers2 .ensures) (c .before .before .before .before .before .before .before .before .before .before .unknowns .ensures) (c .before .before .before .before .before .before .equations .ensures) (c .before .before .numbers3 .ensures)
+    (w1 .numbers .ensures) (w2 .numbers2 .ensures) (w3 .unknowns .ensures) (w4 .equations .ensures) (w5 .numbers3 .ensures)
 
 pub write-spec : {M : Type 1} → statement M
 write-spec =

@@ -1,17 +1,12 @@
 -- `strip::listed` meets its contract: after i turns the stretch lists the marked places below i, by number.
-use mathlib.Core.Path.{_≡_, sym, _∙_}
+use mathlib.Core.Path.{sym, _∙_}
 use Prim.Native.Nat.{_-_, _≤_}
 use native.Mathlib.Omega.{arith}
-use borrow.Author.Needs.{needs}
 use mathlib.Core.Logic.{⊎-elim}
 use Rattle.laws.specs.Marks.{marked}
-use Rattle.table.specs.Model.{limit}
 use Rattle.analysis.proofs.Strips.{Listing, listing-long, listing-within, listing-start, listing-skip, listing-add, listing-end}
 use Rattle.analysis.proofs.strip.listed.Statement.{statement}
 use Rattle.analysis.proofs.strip.listed.Tie as tie
-use Rattle.analysis.proofs.strip.listed.Reads as reads
-use Rattle.analysis.proofs.strip.listed.Lts as lts
-use Rattle.analysis.proofs.strip.unused.Reads as unused-reads
 
 abbrev Inv-loop : tie.InvT-loop
 Inv-loop stretch₀ n marks at₀ i₀ stretch at i = (i ≤ n) × Listing (marked marks) stretch at i

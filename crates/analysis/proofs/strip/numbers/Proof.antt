@@ -1,15 +1,11 @@
 -- `strip::numbers` meets its contract: after i turns the stretch holds the first i numbers.
-use mathlib.Core.Path.{_≡_, sym, _∙_}
+use mathlib.Core.Path.{sym, _∙_}
 use Prim.Native.Nat.{_-_, _≤_}
 use native.Mathlib.Omega.{arith}
 use borrow.Author.Needs.{needs}
-use Rattle.table.specs.Model.{limit}
 use Rattle.analysis.proofs.Strips.{Filling, filling-long, filling-start, filling-step, filling-end}
 use Rattle.analysis.proofs.strip.numbers.Statement.{statement}
 use Rattle.analysis.proofs.strip.numbers.Tie as tie
-use Rattle.analysis.proofs.strip.numbers.Reads as reads
-use Rattle.analysis.proofs.strip.numbers.Lts as lts
-use Rattle.analysis.proofs.strip.unused.Reads as unused-reads
 
 abbrev Inv-loop : tie.InvT-loop
 Inv-loop stretch₀ n numbers i₀ stretch i = (i ≤ n) × Filling numbers stretch i

@@ -10,9 +10,6 @@ use Rattle.table.specs.Model.{limit}
 use Rattle.analysis.proofs.Strips.{Filling, filling-long, filling-start, filling-step, filling-end}
 use Rattle.analysis.proofs.strip.unknowns.Statement.{statement}
 use Rattle.analysis.proofs.strip.unknowns.Tie as tie
-use Rattle.analysis.proofs.strip.unknowns.Reads as reads
-use Rattle.analysis.proofs.strip.unknowns.Lts as lts
-use Rattle.analysis.proofs.strip.unused.Reads as unused-reads
 
 abbrev Inv-loop : tie.InvT-loop
 Inv-loop stretch₀ n unknowns i₀ stretch i = (i ≤ n) × Filling (map unknownNumber unknowns) stretch i
@@ -40,9 +37,11 @@ loop-less c = omega arith
 
 loop-again : tie.Need-loop-again Inv-loop μ-loop
 loop-again c =
-    let long : length (map unknownNumber (c .before .before .before .before .before .before .before .before .args .t3)) ≡ limit = length-map (c .before .before .before .before .before .before .before .before .args .t3) unknownNumber ∙ (search needs) in
-    let next = filling-step long (c .before .before .loop .inv .1) (omega arith) in
-    (omega arith, rw (List·getD-map unknownNumber (c .before .before .before .before .before .before .before .before .args .t3) (c .before .before .loop .i) (record { 0 = 0 })) at next)
+    let l = c .before .before .before .before .before .before .before .before .args .t3 in
+    let turn = c .before .before .loop in
+    let long : length (map unknownNumber l) ≡ limit = length-map l unknownNumber ∙ (search needs) in
+    let next = filling-step long (turn .inv .1) (omega arith) in
+    (omega arith, rw (List·getD-map unknownNumber l (turn .i) (record { 0 = 0 })) at next)
 
 same-length : tie.Need-same-length Inv-loop μ-loop
 same-length c = filling-long (c .before .loop .inv .1) ∙ sym (c .before .before .before .before .before .before .before .pre .0)

@@ -6,8 +6,6 @@ use Rattle.table.specs.Model.{limit}
 use Rattle.analysis.proofs.Strips.{Clearing, clearing-start, clearing-step, clearing-end}
 use Rattle.analysis.proofs.strip.unused.Statement.{statement}
 use Rattle.analysis.proofs.strip.unused.Tie as tie
-use Rattle.analysis.proofs.strip.unused.Reads as reads
-use Rattle.analysis.proofs.strip.unused.Lts as lts
 
 abbrev Inv-loop : tie.InvT-loop
 Inv-loop stretch₀ i₀ stretch i = Clearing stretch₀ stretch i

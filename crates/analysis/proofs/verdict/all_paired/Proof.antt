@@ -3,8 +3,6 @@ use mathlib.Core.Path.{refl}
 use borrow.Author.Tests.{eq-eqb, ne-eqb}
 use Rattle.analysis.proofs.verdict.all_paired.Statement.{statement}
 use Rattle.analysis.proofs.verdict.all_paired.Tie as tie
-use Rattle.analysis.proofs.verdict.all_paired.Reads as reads
-use Rattle.analysis.proofs.verdict.all_paired.Lts as lts
 
 returns : tie.Need-returns
 returns c = rw (eq-eqb (c .before .args .equations) (c .before .args .unknowns) (c .if1 .taken)) refl

@@ -51,7 +51,8 @@ loop-again c =
     let a = c .before .before .before .before .args in
     let few = c .before .before .before .before .pre .0 .few in
     let g = c .before .before .before .loop .g in
-    let here = need-here (a .equations) (occursAt (a .leading .now)) (partnerAt (a .t3)) (a .f) g (c .before .before .before .before .pre .1) (c .before .before .loop-test .taken) in (
+    let here = need-here (a .equations) (occursAt (a .leading .now)) (partnerAt (a .t3)) (a .f) g
+    (c .before .before .before .before .pre .1) (c .before .before .loop-test .taken) in (
       omega arith,
       fill-next limit g (bits (a .leading .now) (a .equations) (a .t3) (a .f)) nothing _ _ (c .before .before .before .loop .inv .1)
           (c .need .ensures ∙ here) (omega arith),

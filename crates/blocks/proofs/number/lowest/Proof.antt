@@ -1,8 +1,7 @@
 -- `number::lowest` looks at the equations ascending and keeps the first that waits.
-use mathlib.Core.Path.{_≡_, sym, _∙_}
+use mathlib.Core.Path.{sym, _∙_}
 use mathlib.Core.Logic.{⊎-elim}
 use Prim.Native.Nat.{_-_}
-use native.Mathlib.Omega.{arith}
 use borrow.Author.Needs.{needs}
 use Rattle.table.specs.Model.{occursAt}
 use Rattle.blocks.specs.Handed.{at}

@@ -35,7 +35,8 @@ lowest-requires-2 c κs = c .before .before .before .before .before .before .bef
 loop-less : tie.Need-loop-less Inv-loop μ-loop
 loop-less c =
     let p = c .before .before .before .before .before .before .before .before .pre in
-    counting-falls (p .1) (p .0) (c .before .before .before .before .before .loop .inv) (c .before .before .before .before .loop-test .taken) (c .before .before .renumber .ensures)
+    counting-falls (p .1) (p .0) (c .before .before .before .before .before .loop .inv) (c .before .before .before .before .loop-test .taken)
+    (c .before .before .renumber .ensures)
 
 loop-again : tie.Need-loop-again Inv-loop μ-loop
 loop-again c =

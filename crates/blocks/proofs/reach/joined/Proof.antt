@@ -49,7 +49,8 @@ loop-less c = search needs
 loop-again : tie.Need-loop-again Inv-loop μ-loop
 loop-again c =
     let a = c .before .before .before .args in
-    (omega arith, fill-next limit (c .before .before .loop .g) (one (a .t1) (a .t2)) nothing _ _ (c .before .before .loop .inv .1) (c .either-of .ensures) (omega arith))
+    let loop = c .before .before .loop in
+    (omega arith, fill-next limit (loop .g) (one (a .t1) (a .t2)) nothing _ _ (loop .inv .1) (c .either-of .ensures) (omega arith))
 
 returns : tie.Need-returns Inv-loop μ-loop
 returns c =

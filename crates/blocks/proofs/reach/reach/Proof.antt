@@ -35,7 +35,8 @@ loop-again : tie.Need-loop-again Inv-loop μ-loop
 loop-again c =
     let a = c .before .before .before .before .before .args in
     let few = c .before .before .before .before .before .pre .0 in
-    (omega arith, through-next (a .equations) (occursAt (a .needs .now)) (c .before .before .before .loop .k) _ _ (c .before .before .before .loop .inv .1) (c .through .ensures) (omega arith))
+    let loop = c .before .before .before .loop in
+    (omega arith, through-next (a .equations) (occursAt (a .needs .now)) (loop .k) _ _ (loop .inv .1) (c .through .ensures) (omega arith))
 
 returns : tie.Need-returns Inv-loop μ-loop
 returns c =

@@ -2,10 +2,9 @@
 use mathlib.Core.Path.{_≡_, refl, ap}
 use Prim.Native.Nat.{_-_, _≤_}
 use native.Mathlib.Omega.{arith}
-use lib.ListN.{replicate}
 use borrow.Author.Needs.{needs}
 use Rattle.laws.proofs.Tab.{copies-at}
-use Rattle.table.specs.Model.{limit, occursAt}
+use Rattle.table.specs.Model.{limit}
 use Rattle.table.specs.declared.number.Unknown.{Unknown}
 use Rattle.pairing.proofs.Settling.{Read, read-next, first-is}
 use Rattle.pairing.proofs.first.first.Statement.{statement}

@@ -1,15 +1,12 @@
 -- `first::trial`, by the laws of proofs/Trying: the unknown is absent, or held by an equation up to this one, or its holder is asked to move on.
-use mathlib.Core.Path.{_≡_, refl, sym, ap, _∙_}
-use mathlib.Core.Bool.{Bool, true}
-use mathlib.Core.List.{List}
-use Prim.Native.Nat.{ℕ, suc, _-_, _<_, _≤_}
+use mathlib.Core.Path.{_≡_, sym, ap, _∙_}
+use mathlib.Core.Bool.{true}
+use Prim.Native.Nat.{suc, _-_, _<_}
 use native.Mathlib.Omega.{arith}
-use lib.ListN.{set, length, length-set}
 use borrow.Author.Needs.{needs}
-use borrow.Author.Tests.{eq-eqb, not-true, not-false}
-use Rattle.table.specs.Model.{limit, occursAt}
-use Rattle.table.specs.declared.number.Equation.{Equation}
-use Rattle.pairing.specs.Holders.{holder, held, Asking}
+use borrow.Author.Tests.{not-true, not-false}
+use Rattle.table.specs.Model.{occursAt}
+use Rattle.pairing.specs.Holders.{held}
 use Rattle.pairing.proofs.Searching.{widen}
 use Rattle.pairing.proofs.Trying.{marks, owns, Asked, swapped-asks, swapped-tried, tried-absent, tried-held}
 use Rattle.pairing.proofs.first.trial.Statement.{statement}

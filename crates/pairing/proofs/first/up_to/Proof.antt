@@ -3,7 +3,6 @@ use mathlib.Core.Path.{_≡_}
 use Prim.Native.Nat.{_-_, _≤_}
 use native.Mathlib.Omega.{arith}
 use borrow.Author.Needs.{needs}
-use Rattle.table.specs.Model.{limit}
 use Rattle.pairing.proofs.Trying.{marks, marks-start, marks-step}
 use Rattle.pairing.proofs.first.up_to.Statement.{statement}
 use Rattle.pairing.proofs.first.up_to.Tie as tie

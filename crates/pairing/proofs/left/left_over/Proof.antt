@@ -1,5 +1,5 @@
 -- `left::left_over`: the certificate of the table tells the rank and the surplus, that of the transposed table the unfixed.
-use mathlib.Core.Path.{_≡_, ap, sym}
+use mathlib.Core.Path.{_≡_, ap}
 use mathlib.Core.Bool.{not}
 use mathlib.Core.List.{List}
 use Prim.Native.Nat.{ℕ, _<_, _≤_}

@@ -5,7 +5,7 @@ use mathlib.Core.Bool.{true}
 use Prim.Native.Nat.{ℕ, suc, _-_, _<_}
 use native.Mathlib.Numerals.{add-one}
 use native.Mathlib.Omega.{arith}
-use lib.ListN.{length, getD, set}
+use lib.ListN.{length, set}
 use borrow.Author.Needs.{needs}
 use borrow.Fn.Kinds.{In}
 use borrow.Fn.PlainCycle.{Measures, is, falls, and}
@@ -15,7 +15,7 @@ use Rattle.table.specs.Model.{limit, occursAt}
 use Rattle.pairing.specs.Holders.{holder, held, Asking, Searched, Nothing}
 use Rattle.pairing.specs.Looking.{AllHeld}
 use Rattle.pairing.proofs.Give.{Given}
-use Rattle.pairing.proofs.Searching.{Turn, Wanted, wanted, giving, restored, takes, asks, moves, all-held, held-by, turn-start, turn-next, ends, fewer, turn-asked, has-found, has-nothing}
+use Rattle.pairing.proofs.Searching.{Turn, Wanted, wanted, giving, restored, takes, asks, moves, all-held, turn-start, turn-next, ends, fewer, turn-asked, has-found, has-nothing}
 use Rattle.pairing.proofs.search.search.Reads as search′
 use Rattle.pairing.proofs.search.search.Kinds as search-kinds
 use Rattle.pairing.proofs.search.+search.Lts-search as search-lts

@@ -1,5 +1,4 @@
 -- `judge::counted` is the definition's test: the first comparison decides whether the second is looked at.
-use mathlib.Core.Path.{refl}
 use borrow.Author.Tests.{le-leb, lt-leb}
 use Rattle.table.proofs.judge.counted.Statement.{statement}
 use Rattle.table.proofs.judge.counted.Tie as tie

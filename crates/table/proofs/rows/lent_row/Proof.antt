@@ -1,12 +1,11 @@
 -- `rows::lent_row` fills one place after another; beyond the last unknown the zeros of the start stay.
-use mathlib.Core.Path.{_≡_, refl, sym, _∙_, ap}
+use mathlib.Core.Path.{_≡_, _∙_}
 use Prim.Native.Nat.{ℕ, _+_, _-_, _≤_}
 use native.Mathlib.Omega.{arith}
 use mathlib.Core.List.{List}
-use lib.Dec.{ltb}
-use lib.ListN.{length, getD, replicate}
+use lib.ListN.{getD}
 use borrow.Author.Needs.{needs}
-use Rattle.laws.specs.Tab.{tab, pick, upto}
+use Rattle.laws.specs.Tab.{tab, upto}
 use Rattle.laws.proofs.Tab.{fill-start, fill-step, replicate-tab}
 use Rattle.table.specs.Model.{limit}
 use Rattle.table.proofs.rows.lent_row.Statement.{statement}

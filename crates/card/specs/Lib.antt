@@ -1,0 +1,5 @@
+-- What the contracts of this crate cite.
+pub mod Text
+pub mod Entry
+pub mod Card
+pub mod Steps
