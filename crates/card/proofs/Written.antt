@@ -160,7 +160,7 @@ module _ (name : List ℕ) (E U : ℕ) (t : List ℕ) (g : WriteGood name E U t)
   name-bytes : every nameByte name ≡ true
   name-bytes = and-right (leb 1 (length name) && leb (length name) 24) (every nameByte name) (g .named)
 
-  limited : (E ≤ 32) × (U ≤ 32)
+  limited : (E ≤ limit) × (U ≤ limit)
   limited = let b = limits E U (g .limits) in (b .0 .high, b .1 .high)
 
   codes-few : N ≤ 9999
@@ -187,7 +187,7 @@ module _ (name : List ℕ) (E U : ℕ) (t : List ℕ) (g : WriteGood name E U t)
   rig-named : (rest : Lines) → rigOf (line (rigKey ++ name) rest) ≡ Named (length (rigKey ++ name))
   rig-named rest = rw (g .named)
 
-  count-said : (key : List ℕ) (n at : ℕ) (rest : Lines) → n ≤ 32 → countedIn n ≡ true → countOf key at (line (key ++ dec n) rest) ≡ Counts n (at + length (key ++ dec n) + 1)
+  count-said : (key : List ℕ) (n at : ℕ) (rest : Lines) → n ≤ limit → countedIn n ≡ true → countOf key at (line (key ++ dec n) rest) ≡ Counts n (at + length (key ++ dec n) + 1)
   count-said key n at rest h c = ap (countSaid (at + length (key ++ dec n) + 1)) (value-dec key n (omega arith)) ∙ rw c
 
   head-read : (at : ℕ) (rest : Lines)
