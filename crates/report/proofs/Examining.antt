@@ -1,0 +1,123 @@
+-- Laws of what a card comes to: a refusal of its own, or what the analysis hands back for its table; and of the two ends of the report.
+use mathlib.Core.Path.{_≡_, refl, ap, sym, _∙_}
+use mathlib.Core.Bool.{Bool, true, false, _&&_}
+use mathlib.Core.List.{List, [], _∷_, _++_}
+use Prim.Native.Nat.{ℕ, _+_, _*_, _%_, _≤_, _<_}
+use native.Mathlib.Omega.{arith}
+use lib.Dec.{leb, ltb, eqb}
+use lib.ListN.{length, take, drop, replicate, length-replicate}
+use lib.Seq.{sets-eq, take-at, length-take-le}
+use borrow.Author.Tests.{eq-eqb, ne-eqb, le-leb, lt-leb, leb-true, ltb-true}
+use Rattle.laws.specs.Tab.{pick}
+use Rattle.laws.proofs.Tests.{test, and-left, and-right}
+use Rattle.table.specs.Model.{limit, inLimits}
+use Rattle.table.proofs.Model.{limits}
+use Rattle.card.specs.Entry.{nameByte, every, goodName}
+use Rattle.card.specs.Card.{Judged, refused, good, judged, readOf, nameOf}
+use Rattle.card.specs.Steps.{Laid, ReadDone, WriteGood}
+use Rattle.card.specs.declared.Reading.{Reading}
+use Rattle.card.proofs.ListLaws.{cells-within}
+use Rattle.card.proofs.WriteLaws.{laid-same, laid-nothing}
+use Rattle.card.proofs.Readable.{good-card}
+use Rattle.card.proofs.Theorems.{ReadGood, read-good}
+use Rattle.analysis.specs.Outcome.{answerBytes}
+use Rattle.report.specs.Printed.{refusedText, solvableText, singularText, verdictText, PrintedOf, Printed, inputLimit, Reported}
+use Rattle.report.specs.Steps.{textOf, refusedAs, Analysed, Examined}
+use Rattle.report.specs.declared.Found.{Found}
+
+-- a name that is asked for is short
+pub name-short : (s : List ℕ) → length (nameOf (judged s)) ≤ 24
+name-short s = go (judged s) refl
+  where
+    go : (j : Judged) → judged s ≡ j → length (nameOf j) ≤ 24
+    go (refused m at) p = omega arith
+    go (good name E U t) p =
+        let g = good-card s name E U t p .fine .named in
+        leb-true (length name) 24 (and-right (leb 1 (length name)) (leb (length name) 24) (and-left (leb 1 (length name) && leb (length name) 24) (every nameByte name) g))
+
+pub examined-long : (s : List ℕ) → inputLimit < length s → Examined s (refusedAs 19 0)
+examined-long s h = record { printed = record { long = λ _. refl; short = λ k. absurd (omega arith) }; within = omega arith }
+
+-- of a good card: E × U is small, and what is found is what the analysis hands back for its table
+module _ (s name : List ℕ) (E U : ℕ) (t : List ℕ) (p : judged s ≡ good name E U t) {x y : ℕ} (e : x ≡ E) (u : y ≡ U) where
+  good-size : x * y ≤ limit * limit
+  good-size = rw (e, u) (cells-within E U (good-card s name E U t p .fine .limits))
+
+  good-found : (after rest : List ℕ) {f : Found} → length s ≤ inputLimit → after ≡ t ++ rest → length t ≡ E * U → Analysed x y (take (x * y) after) f → Examined s f
+  good-found after rest {f} h b l d =
+      let m = limits E U (good-card s name E U t p .fine .limits) in
+      let i = d .equations in
+      let said : textOf name f ≡ verdictText name E (f .number) (f .answer) = rw (d .good, i, e) in
+      record {
+        printed = record {
+          long = λ n. absurd (omega arith);
+          short = λ _. rw p (record { number = f .number; answer = f .answer; reply = rw (e, u, b, take-at t rest (E * U) l) at (d .reply); says = said })
+        };
+        within = omega (arith, m .0 .high)
+      }
+
+module _ {s after : List ℕ} {r : Reading} (h : length s ≤ inputLimit) (k : ReadDone s (replicate {A = ℕ} (limit * limit) 0) r after) where
+  pub examined-refused : (r .number ≡ 0 → ⊥) → Examined s (refusedAs (r .number) (r .place))
+  examined-refused n = record { printed = record { long = λ l. absurd (omega arith); short = λ _. go (judged s) refl }; within = omega arith }
+    where
+      text-is : (name : List ℕ) → textOf name (refusedAs (r .number) (r .place)) ≡ refusedText (r .number) (r .place)
+      text-is name = rw (ne-eqb (r .number) 0 n)
+      go : (j : Judged) → judged s ≡ j → PrintedOf j (textOf (nameOf (judged s)) (refusedAs (r .number) (r .place)))
+      go (refused m at) p =
+          let a : r ≡ readOf (length (replicate {A = ℕ} (limit * limit) 0)) (refused m at) = k .answer ∙ ap (readOf (length (replicate {A = ℕ} (limit * limit) 0))) p in
+          text-is (nameOf (judged s)) ∙ ap (λ x. refusedText (x .number) (x .place)) a
+      go (good name E U t) p =
+          let a : r ≡ readOf (limit * limit) (good name E U t) = k .answer ∙ ap (readOf (limit * limit)) p in
+          let c = cells-within E U (good-card s name E U t p .fine .limits) in
+          test (ltb (limit * limit) (E * U))
+          (λ t. let f = ltb-true (limit * limit) (E * U) t in absurd (omega arith))
+          (λ t. let b : r ≡ record { number = 0; place = 0; equations = E; unknowns = U } = rw t at a in absurd (n (ap (λ x. x .number) b)))
+
+  module _ (z : r .number ≡ 0) where
+    pub size-small : r .equations * r .unknowns ≤ limit * limit
+    size-small = let g = read-good k z in let w = g .says in good-size s (w .name) (w .E) (w .U) (w .t) (w .is) (g .equations) (g .unknowns)
+
+    pub examined-good : {f : Found} → Analysed (r .equations) (r .unknowns) (take (r .equations * r .unknowns) after) f → Examined s f
+    examined-good d =
+        let g = read-good k z in
+        let w = g .says in
+        good-found s (w .name) (w .E) (w .U) (w .t) (w .is) (g .equations) (g .unknowns) after (drop (w .E * w .U) (replicate (limit * limit) 0)) h (g .bytes) (g .sized) d
+
+-- the text of what was found
+pub text-refused : (name : List ℕ) (f : Found) {a b : List ℕ} {next : ℕ} → (f .refused ≡ 0 → ⊥) → Laid a 0 (refusedText (f .refused) (f .place)) b next → Laid a 0 (textOf name f) b next
+text-refused name f n p = rw (ne-eqb (f .refused) 0 n) p
+
+pub text-solvable : (name : List ℕ) (f : Found) {a b : List ℕ} {next : ℕ} → f .refused ≡ 0 → f .number % 256 ≡ 0
+    → Laid a 0 (solvableText name (f .equations) (f .number) (f .answer)) b next → Laid a 0 (textOf name f) b next
+text-solvable name f z c p = rw (eq-eqb (f .refused) 0 z, eq-eqb (f .number % 256) 0 c) p
+
+pub text-singular : (name : List ℕ) (f : Found) {a b : List ℕ} {next : ℕ} → f .refused ≡ 0 → (f .number % 256 ≡ 0 → ⊥)
+    → Laid a 0 (singularText name (f .number) (f .answer)) b next → Laid a 0 (textOf name f) b next
+text-singular name f z c p = rw (eq-eqb (f .refused) 0 z, ne-eqb (f .number % 256) 0 c) p
+
+-- ---- the report's two ends: there is no room, and there is
+
+module _ (before : List ℕ) {s name l : List ℕ} {f : Found} {r : ℕ} (k : Examined s f) (e : name ≡ nameOf (judged s)) (m : Laid [] 0 (textOf name f) l r) where
+  printed-is : Printed s (textOf name f)
+  printed-is = rw e (k .printed)
+
+  pub reported-none : length (l ++ before) < r → Reported s before r (l ++ before)
+  reported-none h =
+      let z : l ≡ [] = laid-nothing m in
+      let p = m .place in
+      let n : length before < r = rw z at h in
+      record { text = textOf name f; printed = printed-is; size = omega arith; bytes = rw (z, lt-leb (length (textOf name f)) (length before) (omega arith)) }
+
+  pub reported-all : {after : List ℕ} {q : ℕ} → r ≤ length (l ++ before) → Laid (l ++ before) 0 (textOf name f) after q → Reported s before q after
+  reported-all {after} {q} h w =
+      let z : l ≡ [] = laid-nothing m in
+      let p = m .place in
+      let n : r ≤ length before = rw z at h in
+      let v : Laid before 0 (textOf name f) after q = rw z at w in
+      let o : 0 + length (textOf name f) ≡ length (textOf name f) = omega arith in
+      record {
+        text = textOf name f;
+        printed = printed-is;
+        size = omega (arith, v .place);
+        bytes = v .list ∙ sets-eq (textOf name f) before 0 (omega arith) ∙ rw (o, le-leb (length (textOf name f)) (length before) (omega arith))
+      }

@@ -1,0 +1,5 @@
+-- The laws of the printed result.
+pub mod ListLaws
+pub mod TextLaws
+pub mod Examining
+pub mod Printing

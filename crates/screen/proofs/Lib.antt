@@ -1,0 +1,2 @@
+-- The laws of the numbers handed back.
+pub mod Unpacked
