@@ -30,7 +30,7 @@ pub fn put_all(card: &mut [u8], at: usize, bytes: &[u8]) -> usize
 }
 
 // The last decimal digit.
-fn digit_of(n: usize) -> u8
+pub fn digit_of(n: usize) -> u8
     ensures { λ r. ⌜ r ≡ digitOf n ⌝ }
 {
     48 + (n % 10) as u8
