@@ -5,10 +5,6 @@ use borrow.Author.Needs.{needs}
 use lib.ListN.{length}
 use Rattle.card_run.proofs.each.Statement.{statement}
 use Rattle.card_run.proofs.each.Tie as tie
-use Rattle.card_run.proofs.each.Reads as reads
-use Rattle.card_run.proofs.each.Lts as lts
-use Rattle.card_run.proofs.mark.Reads as mark-reads
-use Rattle.card_run.proofs.run.Reads as run-reads
 
 abbrev Inv-loop : tie.InvT-loop
 Inv-loop input at₀ at = at ≤ length input
@@ -16,51 +12,39 @@ Inv-loop input at₀ at = at ≤ length input
 abbrev μ-loop : tie.MeasureT-loop
 μ-loop input at₀ at = length input - at
 
--- src/main.rt:98:5
 loop-holds : tie.Need-loop-holds Inv-loop μ-loop
 loop-holds c = omega arith
 
--- src/main.rt:99:13
 mark-requires : tie.Need-mark-requires Inv-loop μ-loop
 mark-requires c κs = omega arith
 
--- src/main.rt:100:13
 sub-run : tie.Need-sub-run Inv-loop μ-loop
 sub-run c = omega arith
 
--- src/main.rt:100:13
 part-run-start : tie.Need-part-run-start Inv-loop μ-loop
 part-run-start c = omega arith
 
--- src/main.rt:100:13
 part-run-end : tie.Need-part-run-end Inv-loop μ-loop
 part-run-end c = omega arith
 
--- src/main.rt:100:9
 run-requires : tie.Need-run-requires Inv-loop μ-loop
 run-requires c κs = search needs
 
--- src/main.rt:102:18
 add-at : tie.Need-add-at Inv-loop μ-loop
 add-at c = omega arith
 
--- src/main.rt:98:5
 loop-less : tie.Need-loop-less Inv-loop μ-loop
 loop-less c = omega (arith, c .before .before .before .mark .ensures)
 
--- src/main.rt:98:5
 loop-again : tie.Need-loop-again Inv-loop μ-loop
 loop-again c = omega arith
 
--- src/main.rt:98:5
 loop-less-2 : tie.Need-loop-less-2 Inv-loop μ-loop
 loop-less-2 c = omega (arith, c .before .before .before .mark .ensures)
 
--- src/main.rt:98:5
 loop-again-2 : tie.Need-loop-again-2 Inv-loop μ-loop
 loop-again-2 c = omega arith
 
--- src/main.rt:96:1
 returns : tie.Need-returns Inv-loop μ-loop
 returns c = search needs
 

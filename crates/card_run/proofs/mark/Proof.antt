@@ -4,8 +4,6 @@ use native.Mathlib.Omega.{arith}
 use lib.ListN.{length}
 use Rattle.card_run.proofs.mark.Statement.{statement}
 use Rattle.card_run.proofs.mark.Tie as tie
-use Rattle.card_run.proofs.mark.Reads as reads
-use Rattle.card_run.proofs.mark.Lts as lts
 
 abbrev Inv-loop : tie.InvT-loop
 Inv-loop input at end₀ end = (at ≤ end) × (end ≤ length input)
@@ -13,31 +11,24 @@ Inv-loop input at end₀ end = (at ≤ end) × (end ≤ length input)
 abbrev μ-loop : tie.MeasureT-loop
 μ-loop input at end₀ end = length input - end
 
--- src/main.rt:87:5
 loop-holds : tie.Need-loop-holds Inv-loop μ-loop
 loop-holds c = (omega arith, c .pre)
 
--- src/main.rt:88:12
 shared-slice-read-if1 : tie.Need-shared-slice-read-if1 Inv-loop μ-loop
 shared-slice-read-if1 c = omega arith
 
--- src/main.rt:89:13
 returns : tie.Need-returns Inv-loop μ-loop
 returns c = omega arith
 
--- src/main.rt:91:9
 add-end : tie.Need-add-end Inv-loop μ-loop
 add-end c = omega arith
 
--- src/main.rt:87:5
 loop-less : tie.Need-loop-less Inv-loop μ-loop
 loop-less c = omega arith
 
--- src/main.rt:87:5
 loop-again : tie.Need-loop-again Inv-loop μ-loop
 loop-again c = omega arith
 
--- src/main.rt:82:1
 returns-2 : tie.Need-returns-2 Inv-loop μ-loop
 returns-2 c = omega arith
 
