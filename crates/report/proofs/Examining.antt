@@ -51,9 +51,9 @@ module _ (s name : List ℕ) (E U : ℕ) (t : List ℕ) (p : judged s ≡ good n
       record {
         printed = record {
           long = λ n. absurd (omega arith);
-          short = λ _. rw p (record { number = f .number; answer = f .answer; reply = rw (e, u, b, take-at t rest (E * U) l) at (d .reply); says = said })
+          short = λ _. rw p (record { number = f .number; answer = f .answer; reply = rw (e, u, b, take-at t rest (E * U) l) at (d .reply); says = said });
         };
-        within = omega (arith, m .0 .high)
+        within = omega (arith, m .0 .high);
       }
 
 module _ {s after : List ℕ} {r : Reading} (h : length s ≤ inputLimit) (k : ReadDone s (replicate {A = ℕ} (limit * limit) 0) r after) where
@@ -62,6 +62,7 @@ module _ {s after : List ℕ} {r : Reading} (h : length s ≤ inputLimit) (k : R
     where
       text-is : (name : List ℕ) → textOf name (refusedAs (r .number) (r .place)) ≡ refusedText (r .number) (r .place)
       text-is name = rw (ne-eqb (r .number) 0 n)
+
       go : (j : Judged) → judged s ≡ j → PrintedOf j (textOf (nameOf (judged s)) (refusedAs (r .number) (r .place)))
       go (refused m at) p =
           let a : r ≡ readOf (length (replicate {A = ℕ} (limit * limit) 0)) (refused m at) = k .answer ∙ ap (readOf (length (replicate {A = ℕ} (limit * limit) 0))) p in
@@ -119,5 +120,5 @@ module _ (before : List ℕ) {s name l : List ℕ} {f : Found} {r : ℕ} (k : Ex
         text = textOf name f;
         printed = printed-is;
         size = omega (arith, v .place);
-        bytes = v .list ∙ sets-eq (textOf name f) before 0 (omega arith) ∙ rw (o, le-leb (length (textOf name f)) (length before) (omega arith))
+        bytes = v .list ∙ sets-eq (textOf name f) before 0 (omega arith) ∙ rw (o, le-leb (length (textOf name f)) (length before) (omega arith));
       }

@@ -50,12 +50,12 @@ joining-step {from} {at} {next} {i} {r} {b} {split} {before} {l} {now} {after} k
     let f : length (take (i - 1) (drop 1 l)) ≡ i - 1 = length-take-le (i - 1) (drop 1 l) (omega arith) in
     let g : getD (drop 1 l) (i - 1) 0 ≡ getD l i 0 = getD-drop 1 l (i - 1) 0 ∙ rw y in
     let s : further split (take (i + 1 - 1) (drop 1 l)) ≡ further split (take (i - 1) (drop 1 l)) ++ (b ∷ dec (getD l i 0))
-          = rw (z, take-suc (drop 1 l) (i - 1) 0 m, further-one split (take (i - 1) (drop 1 l)) (getD (drop 1 l) (i - 1) 0), f, g, e) in
+    = rw (z, take-suc (drop 1 l) (i - 1) 0 m, further-one split (take (i - 1) (drop 1 l)) (getD (drop 1 l) (i - 1) 0), f, g, e) in
     record {
       low = omega arith;
       within = omega arith;
       near = omega (arith, p .place, dec-short (getD l i 0));
-      run = rw s (laid-then (k .run) p)
+      run = rw s (laid-then (k .run) p);
     }
 
 joined-first : (split : ℕ → ℕ) (l : List ℕ) → 1 ≤ length l → dec (getD l 0 0) ++ further split (drop 1 l) ≡ joined split l

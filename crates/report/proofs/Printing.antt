@@ -43,9 +43,10 @@ one-text {input} a b =
 pub one-report : {input before after after′ : List ℕ} {handed handed′ : ℕ} → Reported input before handed after → Reported input before handed′ after′
     → (handed ≡ handed′) × (after ≡ after′)
 one-report {input} {before} a b =
-    let same = one-text (a .printed) (b .printed) in
-    (a .size ∙ ap length same ∙ sym (b .size),
-     a .bytes ∙ ap (λ t. pick (leb (length t) (length before)) (t ++ drop (length t) before) before) same ∙ sym (b .bytes))
+    let same = one-text (a .printed) (b .printed) in (
+      a .size ∙ ap length same ∙ sym (b .size),
+      a .bytes ∙ ap (λ t. pick (leb (length t) (length before)) (t ++ drop (length t) before) before) same ∙ sym (b .bytes),
+    )
 
 -- ---- how long
 
@@ -66,9 +67,19 @@ solvable-short name n number a h l =
     let commas-short : (k : ℕ) → length (commas (stripIn k n a)) ≤ 5 * length (stripIn k n a) = λ k. joined-short (λ _. comma) (stripIn k n a) in
     let blocks-short = joined-short (λ i. splitOf (getD (stripIn 4 n a) i 0) (getD (stripIn 4 n a) (suc i) 0)) (stripIn 3 n a) in
     simp length-append
-    (omega
-    (arith, dec-short (indexIn number), dec-short (freedomIn number), commas-short 0, strip-short 0 n a, commas-short 1, strip-short 1 n a, commas-short 2,
-     strip-short 2 n a, blocks-short, strip-short 3 n a))
+    (omega (
+      arith,
+      dec-short (indexIn number),
+      dec-short (freedomIn number),
+      commas-short 0,
+      strip-short 0 n a,
+      commas-short 1,
+      strip-short 1 n a,
+      commas-short 2,
+      strip-short 2 n a,
+      blocks-short,
+      strip-short 3 n a,
+    ))
 
 -- every printed text has at most 1,024 bytes
 pub text-short : {input text : List ℕ} → Printed input text → length text ≤ 1024

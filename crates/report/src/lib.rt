@@ -25,6 +25,7 @@ pub const TEXT_LIMIT: usize = 1024;
 
 // The most codes of a table, and the five strips of an answer.
 const CELLS: usize = LIMIT * LIMIT;
+
 const ANSWER: usize = 5 * LIMIT;
 
 // What a card comes to: a refusal, or with refused 0 what the analysis handed back.

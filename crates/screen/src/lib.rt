@@ -16,7 +16,10 @@ fn pack(first: usize, second: usize, fourth: usize, fifth: usize) -> u64
     requires { ⌜ (first ≤ 255) × (second ≤ 65535) × (fourth ≤ 65535) × (fifth ≤ 255) ⌝ }
     ensures { λ r. ⌜ r ≡ packed first second fourth fifth ⌝ }
 {
-    (first as u64) + (second as u64) * 256 + (fourth as u64) * 16777216 + (fifth as u64) * 4294967296
+    (first as u64)
+        + (second as u64) * 256
+        + (fourth as u64) * 16777216
+        + (fifth as u64) * 4294967296
 }
 
 // The reader: from the lowest byte number, place (two bytes, low first), E, U, then 0.
