@@ -7,7 +7,7 @@ use table::LIMIT;
 use table::number::Equation;
 use table::number::Unknown;
 ghost use mathlib.Core.Path.{_≡_};
-ghost use mathlib.Core.Bool.{Bool, true};
+ghost use mathlib.Core.Bool.{true};
 ghost use Prim.Native.Nat.{_≤_};
 ghost use lib.ListN.{length, drop};
 ghost use Rattle.table.specs.Model.{inLimits};

@@ -1,26 +1,24 @@
 -- Laws of what a card comes to: a refusal of its own, or what the analysis hands back for its table; and of the two ends of the report.
-use mathlib.Core.Path.{_≡_, refl, ap, sym, _∙_}
-use mathlib.Core.Bool.{Bool, true, false, _&&_}
-use mathlib.Core.List.{List, [], _∷_, _++_}
+use mathlib.Core.Path.{_≡_, refl, ap, _∙_}
+use mathlib.Core.Bool.{_&&_}
+use mathlib.Core.List.{List, [], _++_}
 use Prim.Native.Nat.{ℕ, _+_, _*_, _%_, _≤_, _<_}
 use native.Mathlib.Omega.{arith}
-use lib.Dec.{leb, ltb, eqb}
-use lib.ListN.{length, take, drop, replicate, length-replicate}
-use lib.Seq.{sets-eq, take-at, length-take-le}
+use lib.Dec.{leb, ltb}
+use lib.ListN.{length, take, drop, replicate}
+use lib.Seq.{sets-eq, take-at}
 use borrow.Author.Tests.{eq-eqb, ne-eqb, le-leb, lt-leb, leb-true, ltb-true}
-use Rattle.laws.specs.Tab.{pick}
 use Rattle.laws.proofs.Tests.{test, and-left, and-right}
-use Rattle.table.specs.Model.{limit, inLimits}
+use Rattle.table.specs.Model.{limit}
 use Rattle.table.proofs.Model.{limits}
-use Rattle.card.specs.Entry.{nameByte, every, goodName}
+use Rattle.card.specs.Entry.{nameByte, every}
 use Rattle.card.specs.Card.{Judged, refused, good, judged, readOf, nameOf}
-use Rattle.card.specs.Steps.{Laid, ReadDone, WriteGood}
+use Rattle.card.specs.Steps.{Laid, ReadDone}
 use Rattle.card.specs.declared.Reading.{Reading}
 use Rattle.card.proofs.ListLaws.{cells-within}
-use Rattle.card.proofs.WriteLaws.{laid-same, laid-nothing}
+use Rattle.card.proofs.WriteLaws.{laid-nothing}
 use Rattle.card.proofs.Readable.{good-card}
-use Rattle.card.proofs.Theorems.{ReadGood, read-good}
-use Rattle.analysis.specs.Outcome.{answerBytes}
+use Rattle.card.proofs.Theorems.{read-good}
 use Rattle.report.specs.Printed.{refusedText, solvableText, singularText, verdictText, PrintedOf, Printed, inputLimit, Reported}
 use Rattle.report.specs.Steps.{textOf, refusedAs, Analysed, Examined}
 use Rattle.report.specs.declared.Found.{Found}

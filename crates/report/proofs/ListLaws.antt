@@ -1,22 +1,20 @@
 -- Laws of lists as text: a list grows by a byte that splits and a number; and how long it is at most.
 use mathlib.Core.Path.{_≡_, refl, ap, sym, _∙_}
-use mathlib.Core.Bool.{Bool, true, false}
 use mathlib.Core.List.{List, [], _∷_, _++_, append-assoc, append-nil}
-use Prim.Native.Nat.{ℕ, zero, suc, _+_, _-_, _*_, _≤_, _<_}
+use Prim.Native.Nat.{ℕ, suc, _+_, _-_, _*_, _≤_, _<_}
 use native.Mathlib.Omega.{arith}
 use native.Mathlib.Numerals.{add-one}
 use lib.Dec.{eqb}
-use lib.ListN.{length, getD, take, drop, length-append, length-drop, drop-of-length-le}
+use lib.ListN.{length, getD, take, drop, length-drop, drop-of-length-le}
 use lib.Seq.{take-suc, length-take-le, take-length, drop-cons, getD-drop}
 use borrow.Author.Tests.{eq-eqb, ne-eqb}
-use Rattle.laws.specs.Tab.{pick}
 use Rattle.laws.specs.Text.{bytes}
 use Rattle.laws.proofs.Tests.{test}
 use Rattle.card.specs.Text.{dec}
 use Rattle.card.specs.Steps.{Laid}
 use Rattle.card.proofs.PutLaws.{laid-then, dec-short}
 use Rattle.analysis.specs.Outcome.{unused}
-use Rattle.report.specs.Printed.{further, joined, commas, splitOf, blocksOf, usedIn, orNone}
+use Rattle.report.specs.Printed.{further, joined, commas, splitOf, usedIn, orNone}
 
 -- ---- one more number
 

@@ -1,21 +1,21 @@
 -- What is printed for an input is one text, of at most 1,024 bytes; and a good card is never refused by the analysis, so its text is a verdict's.
 use mathlib.Core.Path.{_≡_, refl, ap, sym, _∙_}
-use mathlib.Core.Bool.{Bool, true, false, not}
-use mathlib.Core.List.{List, [], _∷_, _++_}
-use Prim.Native.Nat.{ℕ, suc, _*_, _≤_, _<_}
+use mathlib.Core.Bool.{false}
+use mathlib.Core.List.{List, _++_}
+use Prim.Native.Nat.{ℕ, suc, _*_, _≤_}
 use native.Mathlib.Omega.{arith}
 use lib.Dec.{leb, ltb, eqb}
 use lib.ListN.{length, getD, drop, length-append}
 use borrow.Author.Tests.{le-ltb, ltb-true, ltb-false, eqb-true}
 use Rattle.laws.specs.Tab.{pick}
 use Rattle.laws.proofs.Tests.{test}
-use Rattle.table.specs.Model.{limit, inLimits, firstAbove}
+use Rattle.table.specs.Model.{limit, firstAbove}
 use Rattle.table.proofs.Model.{limits}
-use Rattle.card.specs.Text.{comma, dec}
-use Rattle.card.specs.Card.{Judged, refused, good, judged, nameOf}
+use Rattle.card.specs.Text.{comma}
+use Rattle.card.specs.Card.{Judged, refused, good, judged}
 use Rattle.card.proofs.PutLaws.{dec-short}
 use Rattle.card.proofs.Readable.{good-card}
-use Rattle.analysis.specs.Outcome.{answerBytes, refusal, Reply}
+use Rattle.analysis.specs.Outcome.{answerBytes, refusal}
 use Rattle.analysis.proofs.One.{one-outcome}
 use Rattle.report.specs.Printed.{commas, splitOf, codeIn, rankIn, indexIn, freedomIn, stripIn, refusedText, solvableText, singularText, verdictText, Answered, PrintedOf, Printed, inputLimit, Reported}
 use Rattle.report.proofs.TextLaws.{joined-short, used-short, strip-short, place-short}

@@ -1,14 +1,12 @@
 -- Laws of the three texts: their parts, one behind another, and how long each is at most.
-use mathlib.Core.Path.{_≡_, refl, ap, sym, _∙_}
-use mathlib.Core.Bool.{Bool, true, false}
-use mathlib.Core.List.{List, [], _∷_, _++_, append-assoc, append-nil}
-use Prim.Native.Nat.{ℕ, zero, suc, _+_, _-_, _*_, _/_, _%_, _≤_, _<_}
+use mathlib.Core.Path.{_≡_}
+use mathlib.Core.List.{List, [], _∷_, _++_, append-assoc}
+use Prim.Native.Nat.{ℕ, suc, _+_, _-_, _*_, _/_, _≤_, _<_}
 use native.Mathlib.Omega.{arith}
-use lib.Dec.{ltb, eqb}
+use lib.Dec.{ltb}
 use lib.ListN.{length, getD, take, drop, length-append, length-take, length-drop}
 use lib.Seq.{length-take-le}
 use borrow.Author.Tests.{lt-ltb, le-ltb}
-use Rattle.laws.specs.Tab.{pick}
 use Rattle.laws.specs.Text.{bytes}
 use Rattle.laws.proofs.Tests.{test}
 use Rattle.table.specs.Model.{limit}
@@ -16,7 +14,7 @@ use Rattle.card.specs.Text.{LF, digitOf, dec}
 use Rattle.card.specs.Steps.{Laid}
 use Rattle.card.proofs.PutLaws.{laid-then, dec-short}
 use Rattle.card.proofs.WriteLaws.{laid-same}
-use Rattle.analysis.specs.Outcome.{unused, answerBytes}
+use Rattle.analysis.specs.Outcome.{answerBytes}
 use Rattle.report.specs.Printed.{field, further, joined, commas, orNone, splitOf, blocksOf, usedIn, stripIn, rankIn, indexIn, freedomIn, placeDec, refusedText, singularText, solvableText}
 use Rattle.report.specs.Steps.{headText, stripsText}
 use Rattle.report.proofs.ListLaws.{used-within}

@@ -1,6 +1,5 @@
 -- Document 01, "The printed result": the bytes that the program prints for the bytes of a card. Every line ends in LF.
 use mathlib.Core.Path.{_≡_}
-use mathlib.Core.Bool.{Bool, true, false}
 use mathlib.Core.List.{List, [], _∷_, _++_}
 use Prim.Native.Nat.{ℕ, suc, _*_, _/_, _%_, _<_, _≤_}
 use Prim.Native.String.{String}

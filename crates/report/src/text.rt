@@ -14,7 +14,7 @@ ghost use Prim.Native.Nat.{_+_, _*_, _/_, _%_, _^_, _≤_, _<_};
 ghost use lib.ListN.{length};
 ghost use Rattle.table.specs.Model.{limit};
 ghost use Rattle.analysis.specs.Outcome.{answerBytes};
-ghost use Rattle.card.specs.Text.{LF, dec};
+ghost use Rattle.card.specs.Text.{LF};
 ghost use Rattle.card.specs.Steps.{Laid};
 ghost use Rattle.report.specs.Printed.{field, commas, blocksOf, orNone, usedIn, stripIn, placeDec, refusedText, singularText, solvableText};
 ghost use Rattle.report.specs.Steps.{headText, stripsText};

@@ -1,6 +1,6 @@
 -- No number that is handed back is cut short: whoever takes the bytes off again has the reader's, the writer's and the name question's own numbers.
-use mathlib.Core.Path.{_≡_, refl, ap, sym, _∙_}
-use mathlib.Core.Bool.{Bool, true, _&&_}
+use mathlib.Core.Path.{_≡_, refl, ap, _∙_}
+use mathlib.Core.Bool.{_&&_}
 use mathlib.Core.List.{List}
 use Prim.Native.Nat.{ℕ, _≤_}
 use native.Mathlib.Omega.{arith}
@@ -8,7 +8,7 @@ use lib.Dec.{leb}
 use lib.ListN.{length}
 use borrow.Author.Tests.{leb-true}
 use Rattle.laws.proofs.Tests.{and-left, and-right}
-use Rattle.card.specs.Entry.{nameByte, every, goodName}
+use Rattle.card.specs.Entry.{nameByte, every}
 use Rattle.card.specs.Card.{Judged, refused, good, judged, readOf, nameOf, nameAt, tableOf, cardOf, writeOf, cardAfter}
 use Rattle.card.specs.Steps.{ReadDone, WriteDone}
 use Rattle.card.specs.declared.Reading.{Reading}
