@@ -1,8 +1,8 @@
 -- Partners that are given, and a test that they are the first: for each equation e, starting from the holders of lower unknowns that e could have and going on
 -- through equations from e on, e itself is never reached. A choice q that agrees before e and gives e the lower unknown of h would send those that are reached
 -- one to one into themselves, so one of them has h's unknown in q; that one is e.
-use mathlib.Core.Path.{_≡_, refl, sym, ap, _∙_}
-use mathlib.Core.Bool.{Bool, true, false, not, _&&_}
+use mathlib.Core.Path.{_≡_, sym, ap, _∙_}
+use mathlib.Core.Bool.{Bool, true, not, _&&_}
 use mathlib.Core.List.{List}
 use Prim.Native.Nat.{ℕ, _<_, _≤_}
 use native.Mathlib.Omega.{arith}

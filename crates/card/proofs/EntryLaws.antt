@@ -51,7 +51,8 @@ module _ {s : List ℕ} {i : ℕ} (k : Spelt s i) where
 
 -- a text with a key in front is as long as the key
 pub begins-length : (key text : List ℕ) → begins key text ≡ true → length key ≤ length text
-begins-length key text h = test (ltb (length text) (length key)) (λ t. clash h (begins-short key text (omega (arith, ltb-true)))) (λ f. omega (arith, ltb-false))
+begins-length key text h = test (ltb (length text) (length key)) (λ t. clash h (begins-short key text (omega (arith, ltb-true))))
+    (λ f. omega (arith, ltb-false))
 
 -- ---- numbers
 

@@ -14,3 +14,4 @@ pub mod Readable
 pub mod Longest
 pub mod Places
 pub mod Theorems
+pub mod Examples

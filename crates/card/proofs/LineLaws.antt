@@ -125,7 +125,6 @@ pub record Rigged (s : List ℕ) (e : ℕ) : Type 0 where
   pub room : e < length s
   pub is : linesOf s ≡ line (take e s) (linesOf (drop (e + 1) s))
   pub name : goodName (drop (length rigKey) (take e s)) ≡ true
-  pub begun : begins rigKey (take e s) ≡ true
 
 unnamed : {A : Type 0} {m e : ℕ} → Unnamed m ≡ Named e → A
 unnamed p = let z : _≡_ {A = ℕ} 0 1 = cc in absurd (omega arith)
@@ -148,7 +147,6 @@ rigged s e p = go (endOf 0 (linesOf s)) refl
           room = k .room;
           is = rig-line s k;
           name = n;
-          begun = b;
         }))
         (λ n. unnamed (rig-bad s k b n ∙ p)))
         (λ b. unnamed (rig-shape s k b ∙ p))

@@ -120,7 +120,8 @@ pub record Triple (s : List ℕ) (e u k : ℕ) : Type 0 where
 triple-is : (s : List ℕ) (e u k : ℕ) → tripleOf s ≡ Occurs e u k → Triple s e u k
 triple-is s e u k q = first (commaOf s) refl q
   where
-    third : (f a g b : ℕ) → commaOf s ≡ Is f a → commaOf (drop a s) ≡ Is g b → (v : Value) → wholeOf (drop b (drop a s)) ≡ v → orderOf f g v ≡ Occurs e u k → Triple s e u k
+    third : (f a g b : ℕ) → commaOf s ≡ Is f a → commaOf (drop a s) ≡ Is g b → (v : Value) → wholeOf (drop b (drop a s)) ≡ v → orderOf f g v ≡ Occurs
+        e u k → Triple s e u k
     third f a g b p r Other w q = shape-occurs q
     third f a g b p r (Says h) w q =
         let x : f ≡ e = cc in
@@ -237,4 +238,5 @@ pub value-clear : (key : List ℕ) (n : ℕ) → every clear key ≡ true → n 
 value-clear key n a h = every-append clear key (dec n) a (dec-clear n h)
 
 pub occurs-clear : (e u k : ℕ) → e ≤ 9999 → u ≤ 9999 → k ≤ 9999 → every clear (occursKey ++ dec e ++ comma ∷ dec u ++ comma ∷ dec k) ≡ true
-occurs-clear e u k a b c = every-append clear (dec e ++ comma ∷ dec u) (comma ∷ dec k) (every-append clear (dec e) (comma ∷ dec u) (dec-clear e a) (dec-clear u b)) (dec-clear k c)
+occurs-clear e u k a b c = every-append clear (dec e ++ comma ∷ dec u) (comma ∷ dec k)
+    (every-append clear (dec e) (comma ∷ dec u) (dec-clear e a) (dec-clear u b)) (dec-clear k c)

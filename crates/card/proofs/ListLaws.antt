@@ -6,10 +6,10 @@ use Prim.Native.Nat.{ℕ, zero, suc, _+_, _-_, _*_, _≤_, _<_}
 use native.Mathlib.Omega.{arith}
 use native.Mathlib.Nat.{mul-le-mul, lt-of-lt-of-le}
 use lib.Arith.{digits-lt}
-use lib.Dec.{leb, eqb}
+use lib.Dec.{leb, ltb, eqb}
 use lib.ListN.{length, take, drop, set, replicate, length-drop, length-set, length-replicate, drop-of-length-le}
 use lib.Seq.{take-set-lt}
-use borrow.Author.Tests.{leb-true, eq-eqb, ne-eqb}
+use borrow.Author.Tests.{leb-true, eq-eqb, ne-eqb, eqb-true, eqb-false, ltb-true, ltb-false}
 use Rattle.laws.specs.Tab.{pick}
 use Rattle.laws.proofs.Tests.{test, and-left, and-right}
 use Rattle.table.specs.Model.{limit, inLimits}
@@ -17,11 +17,12 @@ use Rattle.table.proofs.Model.{limits}
 use Rattle.card.specs.Text.{LF, Lines, none, cut, line, grown, linesOf, endOf}
 use Rattle.card.specs.Entry.{entryOf}
 use Rattle.card.specs.Card.{refused, behind, inRange, precedes, turnSaid, turnOf, cell, finished, turned, listed}
-use Rattle.card.specs.Steps.{ListRead}
+use Rattle.card.specs.Steps.{endSaid, ListRead}
 use Rattle.card.specs.declared.text.Line.{Line}
 use Rattle.card.specs.declared.text.Line.the-variants.{Unended, Ends}
 use Rattle.card.specs.declared.entry.Entry.{Entry}
 use Rattle.card.specs.declared.entry.Entry.the-variants.{Shape, Occurs, End}
+use Rattle.card.specs.declared.list.Ending.{Ending}
 use Rattle.card.specs.declared.list.Pair.{Pair}
 use Rattle.card.specs.declared.list.Turn.the-variants.{Refused, Next, Last}
 use Rattle.card.proofs.LineLaws.{Found, found, turn-none, turn-found, behind-found}
@@ -134,9 +135,13 @@ pub record Onward (s : List ℕ) (at next : ℕ) : Type 0 where
   pub on : behind (linesOf (drop at s)) ≡ linesOf (drop next s)
 
 onward : {s : List ℕ} {at e n : ℕ} → Found s at e → e + 1 ≡ n → Onward s at n
-onward {s} k z = let a = k .from in let b = k .room in record { more = omega arith; room = omega arith; on = behind-found k ∙ ap (λ i. linesOf (drop i s)) z }
+onward {s} k z =
+    let a = k .from in
+    let b = k .room in
+    record { more = omega arith; room = omega arith; on = behind-found k ∙ ap (λ i. linesOf (drop i s)) z }
 
-pub turn-next : (s : List ℕ) (E U e′ u′ at : ℕ) {p : Pair} {code n : ℕ} → turnOf E U e′ u′ at (linesOf (drop at s)) ≡ Next p code n → Taking E U e′ u′ p code × Onward s at n
+pub turn-next : (s : List ℕ) (E U e′ u′ at : ℕ) {p : Pair} {code n : ℕ} → turnOf E U e′ u′ at (linesOf (drop at s)) ≡ Next p code n → Taking E U e′
+    u′ p code × Onward s at n
 turn-next s E U e′ u′ at {p} {code} {n} q = go (endOf at (linesOf (drop at s))) refl
   where
     go : (l : Line) → endOf at (linesOf (drop at s)) ≡ l → Taking E U e′ u′ p code × Onward s at n
@@ -160,7 +165,8 @@ turn-last s E U e′ u′ at {m} {n} q = go (endOf at (linesOf (drop at s))) ref
 module _ (name : List ℕ) (E U : ℕ) where
   -- a line, and those behind it
   listed-turn : (n e′ u′ : ℕ) (t : List ℕ) (at : ℕ) (ls : Lines)
-      → listed name E U n e′ u′ t at ls ≡ turned name E U n t at (turnOf E U e′ u′ at ls) (behind ls) (λ e u t next. listed name E U (n + 1) e u t next (behind ls))
+      → listed name E U n e′ u′ t at ls ≡ turned name E U n t at (turnOf E U e′ u′ at ls) (behind ls)
+      (λ e u t next. listed name E U (n + 1) e u t next (behind ls))
   listed-turn n e′ u′ t at none = refl
   listed-turn n e′ u′ t at (cut l) = refl
   listed-turn n e′ u′ t at (line l rest) = refl
@@ -190,7 +196,13 @@ take-replicate (suc m) (suc n) h = ap (λ l. 0 ∷ l) (take-replicate m n (omega
 
 pub listing-start : (s : List ℕ) (E U from : ℕ) → inLimits E U ≡ true → from ≤ length s → Listing s E U from (replicate (limit * limit) 0) (pairOf 0 0) 0 from
 listing-start s E U from h r =
-    record { sized = length-replicate {A = ℕ} (limit * limit) 0; room = r; fewer = omega arith; same = λ name. rw (take-replicate (E * U) (limit * limit) (cells-within E U h)) }
+    record {
+      sized = length-replicate {A = ℕ} (limit * limit) 0;
+      room = r;
+      fewer = omega arith;
+      same = λ name. rw
+          (take-replicate (E * U) (limit * limit) (cells-within E U h));
+    }
 
 module _ {s : List ℕ} {E U from : ℕ} {t : List ℕ} {last : Pair} {n at : ℕ} (k : Listing s E U from t last n at) where
   pub listing-next : {p : Pair} {code next : ℕ} → turnOf E U (last .equation .0) (last .unknown .0) at (linesOf (drop at s)) ≡ Next p code next
@@ -230,15 +242,25 @@ module _ {s : List ℕ} {E U from : ℕ} {t : List ℕ} {last : Pair} {n at : �
         ∙ listed-turn name E U n (last .equation .0) (last .unknown .0) (take (E * U) t) at (linesOf (drop at s))
         ∙ rw (q, w .on)
 
-    pub listing-wrong : (m ≡ n → ⊥) → ListRead s E U from (record { number = 16; place = at; table = t })
+    listing-wrong : (m ≡ n → ⊥) → ListRead s E U from (record { number = 16; place = at; table = t })
     listing-wrong h = record { same = λ name. ending name ∙ rw (ne-eqb m n h); sized = k .sized }
 
-    pub listing-more : m ≡ n → next < length s → ListRead s E U from (record { number = 11; place = next; table = t })
+    listing-more : m ≡ n → next < length s → ListRead s E U from (record { number = 11; place = next; table = t })
     listing-more h l =
         record {
           same = λ name. ending name ∙ rw (eq-eqb m n h) (finished-more name E U (take (E * U) t) next (drop next s) (rw length-drop (omega arith)));
           sized = k .sized;
         }
 
-    pub listing-end : m ≡ n → length s ≤ next → ListRead s E U from (record { number = 0; place = 0; table = t })
+    listing-end : m ≡ n → length s ≤ next → ListRead s E U from (record { number = 0; place = 0; table = t })
     listing-end h l = record { same = λ name. ending name ∙ rw (eq-eqb m n h, drop-of-length-le s l); sized = k .sized }
+
+    -- by the tests of the end line
+    pub listing-ended : {r : Ending} → r ≡ endSaid (length s) m n at next → ListRead s E U from (record { number = r .0; place = r .1; table = t })
+    listing-ended {r} e =
+        rw e
+        (test (eqb m n)
+        (λ h. test (ltb next (length s))
+        (λ l. rw (h, l) (listing-more (eqb-true m n h) (ltb-true next (length s) l)))
+        (λ l. rw (h, l) (listing-end (eqb-true m n h) (ltb-false next (length s) l))))
+        (λ h. rw h (listing-wrong (eqb-false m n h))))

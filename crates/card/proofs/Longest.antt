@@ -46,7 +46,8 @@ weight U c = wide (c / U + 1) + wide (c % U + 1) + 11
 
 pub sum-more : (n m : ℕ) (f : ℕ → ℕ) → n ≤ m → sum n f ≤ sum m f
 sum-more n zero f h = let z : n ≡ 0 = omega arith in rw z (omega arith)
-sum-more n (suc m) f h = test (eqb n (suc m)) (λ t. let z : n ≡ suc m = eqb-true n (suc m) t in rw z (omega arith)) (λ t. let k = sum-more n m f (let z = eqb-false n (suc m) t in omega arith) in omega arith)
+sum-more n (suc m) f h = test (eqb n (suc m)) (λ t. let z : n ≡ suc m = eqb-true n (suc m) t in rw z (omega arith))
+    (λ t. let k = sum-more n m f (let z = eqb-false n (suc m) t in omega arith) in omega arith)
 
 sum-split : (a b : ℕ) (f : ℕ → ℕ) → sum (a + b) f ≡ sum b (λ i. f (a + i)) + sum a f
 sum-split a zero f = let z : a + 0 ≡ a = omega arith in rw z (omega arith)
@@ -73,7 +74,8 @@ weights E U a b =
     let rows : sum (E * U) (weight U) ≡ sum E (λ e. sum U (most e))
     = sum-rows E U (weight U) ∙ sum-same E (λ e. sum U (λ u. weight U (e * U + u))) (λ e. sum U (most e))
     (λ e h. sum-same U (λ u. weight U (e * U + u)) (most e) (λ u k. rw (digits-div e {m = U} {r = u} k, digits-mod e {m = U} {r = u} k))) in
-    let one : sum E (λ e. sum U (most e)) ≤ sum E (λ e. sum limit (most e)) = sum-mono E (λ e. sum U (most e)) (λ e. sum limit (most e)) (λ e h. sum-more U limit (most e) b) in
+    let one : sum E (λ e. sum U (most e)) ≤ sum E (λ e. sum limit (most e)) = sum-mono E (λ e. sum U (most e)) (λ e. sum limit (most e))
+    (λ e h. sum-more U limit (most e) b) in
     let two : sum E (λ e. sum limit (most e)) ≤ sum limit (λ e. sum limit (most e)) = sum-more E limit (λ e. sum limit (most e)) a in
     omega (arith, largest)
 
@@ -84,7 +86,15 @@ unfolding weight
 line-weight U c x s =
     test (eqb x 0)
     (λ t. rw t (omega arith))
-    (λ t. rw t (omega (arith, occurs-length (c / U + 1) (c % U + 1) (x - 1), dec-wide (c / U + 1), dec-wide (c % U + 1), dec-wide (x - 1), wide-one (x - 1) (let z = leb-true x topCode s in omega arith))))
+    (λ t. rw t (omega (
+      arith,
+      occurs-length (c / U + 1) (c % U + 1) (x - 1),
+      dec-wide (c / U + 1),
+      dec-wide (c % U + 1),
+      dec-wide (x - 1),
+      wide-one
+          (x - 1) (let z = leb-true x topCode s in omega arith),
+    )))
 
 lines-weight : (U c : ℕ) (r : List ℕ) → every small r ≡ true → length (occursLines U c r) + sum c (weight U) ≤ sum (c + length r) (weight U)
 lines-weight U c [] h = let z : c + 0 ≡ c = omega arith in rw z (omega arith)
@@ -109,7 +119,16 @@ card-length name E U t g =
     let l = lines-weight U 0 t (codes-small t (g .codes)) in
     let z : 0 + length t ≡ E * U = omega arith in
     let m : length (occursLines U 0 t) + 0 ≤ sum (E * U) (weight U) = rw z at l in
-    simp length-append (omega (arith, f .0, dec-wide E, dec-wide U, wide-two E (let h = b .0 .high in omega arith), wide-two U (let h = b .1 .high in omega arith), dec-short (occurrences t)))
+    simp length-append (omega (
+      arith,
+      f .0,
+      dec-wide E,
+      dec-wide U,
+      wide-two E (let h = b .0 .high in omega arith),
+      wide-two U
+          (let h = b .1 .high in omega arith),
+      dec-short (occurrences t),
+    ))
 
 -- one is that long
 pub full-name : List ℕ

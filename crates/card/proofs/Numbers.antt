@@ -49,7 +49,8 @@ digits-read [] more v took rest e l h = let z : took + 0 ≡ took = omega arith 
 digits-read (d ∷ ds) zero v took rest e l h = absurd (omega arith)
 digits-read (d ∷ ds) (suc more) v took rest e l h =
     let z : took + suc (length ds) ≡ took + 1 + length ds = omega arith in
-    rw (and-left (isDigit d) (every isDigit ds) e, z) (digits-read ds more (v * 10 + (d - 48)) (took + 1) rest (and-right (isDigit d) (every isDigit ds) e) (omega arith) h)
+    rw (and-left (isDigit d) (every isDigit ds) e, z) (digits-read ds more (v * 10 + (d - 48)) (took + 1) rest
+    (and-right (isDigit d) (every isDigit ds) e) (omega arith) h)
 
 -- a spelling in front of anything that is no digit is read whole
 spelt-read : (b : ℕ) (ds rest : List ℕ) → Spelling b ds → stops rest ≡ true → numberOf (b ∷ ds ++ rest) ≡ Is (valueOf (b - 48) ds) (1 + length ds)
@@ -79,7 +80,9 @@ is-same : {v t w u : ℕ} → Is v t ≡ Is w u → (v ≡ w) × (t ≡ u)
 is-same e = (cc, cc)
 
 none-more : (more v took : ℕ) (s : List ℕ) (w t : ℕ) → Is v took ≡ Is w t → More more v took s w t
-none-more more v took s w t e = let (p, q) = is-same e in record { ds = []; digits = refl; short = omega arith; value = sym p; count = omega arith; is = refl }
+none-more more v took s w t e =
+    let (p, q) = is-same e in
+    record { ds = []; digits = refl; short = omega arith; value = sym p; count = omega arith; is = refl }
 
 digits-back : (more v took : ℕ) (s : List ℕ) (w t : ℕ) → digitsOf more v took s ≡ Is w t → More more v took s w t
 digits-back zero v took s w t e = none-more zero v took s w t e
@@ -102,7 +105,15 @@ number-back (b ∷ s) v t e =
     let f : Is 0 1 ≡ Is v t = rw (h, z) at e in
     let (p, q) = is-same f in
     let y : b ≡ 48 = eqb-true b 48 z in
-    record { b = b; ds = []; spelling = record { first = h; digits = refl; short = omega arith; lead = λ _. refl }; value = omega arith; took = sym q; is = rw (← q) })
+    record {
+      b = b;
+      ds = [];
+      spelling = record { first = h; digits = refl; short = omega arith; lead = λ _. refl };
+      value = omega arith;
+      took = sym
+          q;
+      is = rw (← q);
+    })
     (λ z.
     let f : digitsOf 3 (b - 48) 1 s ≡ Is v t = rw (h, z) at e in
     let k = digits-back 3 (b - 48) 1 s v t f in
@@ -163,7 +174,11 @@ spells b (c ∷ d ∷ []) k =
     let n = between d (and-left (isDigit d) true (and-right (isDigit c) (every isDigit (d ∷ [])) (k .digits))) in
     let h = first-high k (omega arith) in
     let v = ((b - 48) * 10 + (c - 48)) * 10 + (d - 48) in
-    record { is = rw (le-ltb v 10 (omega arith), le-ltb v 100 (omega arith), lt-ltb v 1000 (omega arith)) (three (omega arith) (omega arith) (omega arith)); small = omega arith }
+    record {
+      is = rw (le-ltb v 10 (omega arith), le-ltb v 100 (omega arith), lt-ltb v 1000 (omega arith))
+          (three (omega arith) (omega arith) (omega arith));
+      small = omega arith;
+    }
 spells b (c ∷ d ∷ e ∷ []) k =
     let l = between b (k .first) in
     let m = between c (and-left (isDigit c) (every isDigit (d ∷ e ∷ [])) (k .digits)) in
@@ -173,7 +188,8 @@ spells b (c ∷ d ∷ e ∷ []) k =
     let h = first-high k (omega arith) in
     let v = (((b - 48) * 10 + (c - 48)) * 10 + (d - 48)) * 10 + (e - 48) in
     record {
-      is = rw (le-ltb v 10 (omega arith), le-ltb v 100 (omega arith), le-ltb v 1000 (omega arith)) (four (omega arith) (omega arith) (omega arith) (omega arith));
+      is = rw (le-ltb v 10 (omega arith), le-ltb v 100 (omega arith), le-ltb v 1000 (omega arith))
+          (four (omega arith) (omega arith) (omega arith) (omega arith));
       small = omega arith;
     }
 spells b (c ∷ d ∷ e ∷ f ∷ ds) k = absurd (omega (arith, k .short))
@@ -244,7 +260,12 @@ digits n h =
     record {
       b = digitOf (n / 100);
       ds = digitOf (n / 10) ∷ digitOf n ∷ [];
-      spelling = record { first = low-digit (n / 100); digits = and-both (low-digit (n / 10)) (and-both (low-digit n) refl); short = omega arith; lead = λ w. absurd (omega arith) };
+      spelling = record {
+        first = low-digit (n / 100);
+        digits = and-both (low-digit (n / 10)) (and-both (low-digit n) refl);
+        short = omega arith;
+        lead = λ w. absurd (omega arith);
+      };
       is = rw (a, b, c);
       value = rw (bare (n / 100 % 10), bare (n / 10 % 10), bare (n % 10)) (three-digits n z);
     })
@@ -269,7 +290,8 @@ pub number-dec : (n : ℕ) (rest : List ℕ) → n ≤ 9999 → stops rest ≡ t
 number-dec n rest h k =
     let d = digits n h in
     ap (λ l. numberOf (l ++ rest)) (d .is) ∙ spelt-read (d .b) (d .ds) rest (d .spelling) k
-    ∙ ap (λ v. Is v (1 + length (d .ds))) (d .value) ∙ ap (Is n) (let z : 1 + length (d .ds) ≡ suc (length (d .ds)) = omega arith in z ∙ ap length (sym (d .is)))
+    ∙ ap (λ v. Is v (1 + length (d .ds))) (d .value) ∙ ap (Is n) (let z : 1 + length (d .ds) ≡ suc (length (d .ds)) = omega arith in z ∙ ap length
+    (sym (d .is)))
 
 -- what is read as a number is the digits of a number up to 9999
 pub record Decimal (s : List ℕ) (n t : ℕ) : Type 0 where

@@ -46,7 +46,8 @@ pub record Placed (E U c : ℕ) : Type 0 where
   pub u-high : c % U + 1 ≤ U
 
 pub placed : (E U c : ℕ) → 1 ≤ U → c < E * U → Placed E U c
-placed E U c h l = let q = div-lt-iff-lt-mul {k = U} {x = c} {y = E} h .1 l in let r = mod-lt c {m = U} h in record { e-high = omega arith; u-high = omega arith }
+placed E U c h l = let q = div-lt-iff-lt-mul {k = U} {x = c} {y = E} h .1 l in let r = mod-lt c {m = U} h in record
+    { e-high = omega arith; u-high = omega arith }
 
 -- a pair, 0, 0 where there is none, all of whose bytes stand before c
 pub Behind : ℕ → ℕ → ℕ → ℕ → Type 0

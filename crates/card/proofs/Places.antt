@@ -14,7 +14,8 @@ use Rattle.table.specs.Model.{limit, countedIn}
 use Rattle.table.proofs.Model.{Counted, counted}
 use Rattle.card.specs.Text.{LF, comma, rigKey, equationsKey, unknownsKey, occursKey, endKey, begins, dec, Lines, none, cut, line, linesOf}
 use Rattle.card.specs.Entry.{nameByte, every, goodName, valueOf, entryOf}
-use Rattle.card.specs.Card.{refused, behind, rigOf, countSaid, countOf, inRange, precedes, turnSaid, cell, finished, turned, listed, headed, named, judged}
+use Rattle.card.specs.Card.{refused, behind, rigOf, countSaid, countOf, inRange, precedes, turnSaid, cell, finished, turned, listed, headed}
+use Rattle.card.specs.Card.{named, judged}
 use Rattle.card.specs.Card as card
 use Rattle.card.specs.declared.entry.Value.{Value}
 use Rattle.card.specs.declared.entry.Value.the-variants.{Other, Says}
@@ -55,13 +56,16 @@ module _ (name : List ℕ) (E U : ℕ) (a : E ≤ limit) (b : U ≤ limit) where
   bound c h = let w = weights E U a b in let s = sum-more c (E * U) (weight U) h in omega arith
 
   Claim : Lines → Type 0
-  Claim ls = (n e′ u′ at c : ℕ) (t : List ℕ) (m q : ℕ) → Reached U c e′ u′ → c ≤ E * U → at ≤ 54 + sum c (weight U) → listed name E U n e′ u′ t at ls ≡ refused m q → Low m q
+  Claim ls = (n e′ u′ at c : ℕ) (t : List ℕ) (m q : ℕ) → Reached U c e′ u′ → c ≤ E * U → at ≤ 54 + sum c (weight U) → listed name E U n e′ u′ t at ls
+      ≡ refused m q → Low m q
 
   here : (c at m n q : ℕ) → c ≤ E * U → at ≤ 54 + sum c (weight U) → 11 ≤ m → m ≤ 16 → refused m at ≡ refused n q → Low n q
-  here c at m n q h l f g e = let k = bound c h in let x : m ≡ n = cc in let y : at ≡ q = cc in record { from = omega arith; to = omega arith; place = omega arith }
+  here c at m n q h l f g e = let k = bound c h in let x : m ≡ n = cc in let y : at ≡ q = cc in record
+      { from = omega arith; to = omega arith; place = omega arith }
 
   -- behind the end line
-  behind-end : (c at n m q : ℕ) (l : List ℕ) → entryOf l ≡ End n → c ≤ E * U → at ≤ 54 + sum c (weight U) → refused 11 (at + length l + 1) ≡ refused m q → Low m q
+  behind-end : (c at n m q : ℕ) (l : List ℕ) → entryOf l ≡ End n → c ≤ E * U → at ≤ 54 + sum c (weight U) → refused 11 (at + length l + 1) ≡ refused
+      m q → Low m q
   behind-end c at n m q l en h k w =
       let f = bound c h in
       let e : length l ≡ length (endKey ++ dec n) = ap length (entry-end-is l n en) in
@@ -83,7 +87,8 @@ module _ (name : List ℕ) (E U : ℕ) (a : E ≤ limit) (b : U ≤ limit) where
       next : ℕ
       next = at + length l + 1
 
-      go : (en : Entry) → entryOf l ≡ en → turned name E U n t at (turnSaid E U e′ u′ next en) rest (λ e u t next. listed name E U (n + 1) e u t next rest) ≡ refused m q → Low m q
+      go : (en : Entry) → entryOf l ≡ en → turned name E U n t at (turnSaid E U e′ u′ next en) rest
+          (λ e u t next. listed name E U (n + 1) e u t next rest) ≡ refused m q → Low m q
       go Shape en w = here c at 11 m q h k (omega arith) (omega arith) w
       go (End N) en w =
           test (eqb N n)
@@ -98,7 +103,8 @@ module _ (name : List ℕ) (E U : ℕ) (a : E ≤ limit) (b : U ≤ limit) where
           let lo = reached-after E U c e′ u′ e u x re ra p in
           let hi = cell-within ra in
           let s = sum-more c (cell U e u) (weight U) lo in
-          let o : sum (cell U e u + 1) (weight U) ≡ weight U (cell U e u) + sum (cell U e u) (weight U) = ap (λ i. sum i (weight U)) (let y : cell U e u + 1 ≡ suc (cell U e u) = omega arith in y) in
+          let o : sum (cell U e u + 1) (weight U) ≡ weight U (cell U e u) + sum (cell U e u) (weight U) = ap (λ i. sum i (weight U))
+          (let y : cell U e u + 1 ≡ suc (cell U e u) = omega arith in y) in
           let g = line-long l ra en in
           let f : listed name E U (n + 1) e u (set t (cell U e u) (x + 1)) next rest ≡ refused m q = rw (r, p) at w in
           ih (n + 1) e u next (cell U e u + 1) (set t (cell U e u) (x + 1)) m q (reached-some E U e u x ra) (omega arith) (omega arith) f))
@@ -197,7 +203,8 @@ headed-low name at ls m q h w = first (countOf equationsKey at ls) refl w
         list-low name E U a (k .0 .high) (behind (behind ls)) at₃ (replicate (E * U) 0) m q (let z = k .1 in omega arith) w
 
     first : (c : Count) → countOf equationsKey at ls ≡ c
-        → card.counted c at (λ E at₂. card.counted (countOf unknownsKey at₂ (behind ls)) at₂ (λ U at₃. listed name E U 0 0 0 (replicate (E * U) 0) at₃ (behind (behind ls)))) ≡ refused m q → Low m q
+        → card.counted c at (λ E at₂. card.counted (countOf unknownsKey at₂ (behind ls)) at₂
+        (λ U at₃. listed name E U 0 0 0 (replicate (E * U) 0) at₃ (behind (behind ls)))) ≡ refused m q → Low m q
     first (Uncounted n) p w = low n at (count-low equationsKey at ls n p) (omega arith) w
     first (Counts E at₂) p w =
         let k = count-next equationsKey at ls E at₂ p in
@@ -207,5 +214,6 @@ pub places : (s : List ℕ) (m at : ℕ) → judged s ≡ refused m at → Low m
 places s m at w = go (rigOf (linesOf s)) refl w
   where
     go : (r : Rig) → rigOf (linesOf s) ≡ r → named s r (linesOf s) ≡ refused m at → Low m at
-    go (Unnamed n) p w = let b = rig-low (linesOf s) n p in let x : n ≡ m = cc in let y : 0 ≡ at = cc in record { from = omega arith; to = omega arith; place = omega arith }
+    go (Unnamed n) p w = let b = rig-low (linesOf s) n p in let x : n ≡ m = cc in let y : 0 ≡ at = cc in record
+        { from = omega arith; to = omega arith; place = omega arith }
     go (Named e) p w = headed-low (drop (length rigKey) (take e s)) (e + 1) (behind (linesOf s)) m at (let z = rig-end (linesOf s) e p in omega arith) w

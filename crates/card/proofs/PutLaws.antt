@@ -62,7 +62,8 @@ laying-end {before} {bytes} {now} {at} {i} k h =
 -- ---- numbers
 
 pub zeros-small : (n : ℕ) → zerosOf n ≤ 3
-zeros-small n = test (ltb n 10) (λ a. rw a (omega arith)) (λ a. test (ltb n 100) (λ b. rw (a, b) (omega arith)) (λ b. test (ltb n 1000) (λ c. rw (a, b, c) (omega arith)) (λ c. rw (a, b, c) (omega arith))))
+zeros-small n = test (ltb n 10) (λ a. rw a (omega arith)) (λ a. test (ltb n 100) (λ b. rw (a, b) (omega arith))
+    (λ b. test (ltb n 1000) (λ c. rw (a, b, c) (omega arith)) (λ c. rw (a, b, c) (omega arith))))
 
 pub dec-short : (n : ℕ) → length (dec n) ≤ 4
 unfolding dec
@@ -73,7 +74,8 @@ unfolding dec
 dec-is n = refl
 
 -- the four digits from the first that counts
-pub number-laid : (n : ℕ) {a b : List ℕ} {at next d₁ d₂ d₃ d₄ z : ℕ} → d₁ ≡ digitOf (n / 1000) → d₂ ≡ digitOf (n / 100) → d₃ ≡ digitOf (n / 10) → d₄ ≡ digitOf n → z ≡ zerosOf n
+pub number-laid : (n : ℕ) {a b : List ℕ} {at next d₁ d₂ d₃ d₄ z : ℕ} → d₁ ≡ digitOf (n / 1000) → d₂ ≡ digitOf (n / 100) → d₃ ≡ digitOf (n / 10) → d₄
+    ≡ digitOf n → z ≡ zerosOf n
     → Laid a at (take (4 - z) (drop z (d₁ ∷ d₂ ∷ d₃ ∷ d₄ ∷ []))) b next → Laid a at (dec n) b next
 number-laid n {a} {b} {at} {next} {d₁} {d₂} {d₃} {d₄} {z} p q r s t w = rw (← same) w
   where
@@ -81,4 +83,5 @@ number-laid n {a} {b} {at} {next} {d₁} {d₂} {d₃} {d₄} {z} p q r s t w = 
     four = cc
 
     same : take (4 - z) (drop z (d₁ ∷ d₂ ∷ d₃ ∷ d₄ ∷ [])) ≡ dec n
-    same = part-to-end (d₁ ∷ d₂ ∷ d₃ ∷ d₄ ∷ []) z ∙ ap (drop z) four ∙ ap (λ k. drop k (digitOf (n / 1000) ∷ digitOf (n / 100) ∷ digitOf (n / 10) ∷ digitOf n ∷ [])) t ∙ dec-is n
+    same = part-to-end (d₁ ∷ d₂ ∷ d₃ ∷ d₄ ∷ []) z ∙ ap (drop z) four ∙ ap
+        (λ k. drop k (digitOf (n / 1000) ∷ digitOf (n / 100) ∷ digitOf (n / 10) ∷ digitOf n ∷ [])) t ∙ dec-is n

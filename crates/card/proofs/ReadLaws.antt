@@ -50,10 +50,12 @@ copying-end {codes} {before} {now} {i} k h =
 -- ---- the lines behind the unknowns line
 
 module _ {s : List ℕ} {E U at : ℕ} {r : Listed} (k : ListRead s E U at r) where
-  pub list-refused : (r .number ≡ 0 → ⊥) → (name : List ℕ) → listed name E U 0 0 0 (replicate (E * U) 0) at (linesOf (drop at s)) ≡ refused (r .number) (r .place)
+  pub list-refused : (r .number ≡ 0 → ⊥) → (name : List ℕ) → listed name E U 0 0 0 (replicate (E * U) 0) at (linesOf (drop at s)) ≡ refused
+      (r .number) (r .place)
   list-refused h name = k .same name ∙ rw (ne-eqb (r .number) 0 h)
 
-  pub list-good : r .number ≡ 0 → (name : List ℕ) → listed name E U 0 0 0 (replicate (E * U) 0) at (linesOf (drop at s)) ≡ good name E U (take (E * U) (r .table))
+  pub list-good : r .number ≡ 0 → (name : List ℕ) → listed name E U 0 0 0 (replicate (E * U) 0) at (linesOf (drop at s)) ≡ good name E U
+      (take (E * U) (r .table))
   list-good h name = k .same name ∙ rw (eq-eqb (r .number) 0 h)
 
   -- there is a table of E × U codes
@@ -65,7 +67,11 @@ module _ {s : List ℕ} {E U at : ℕ} {r : Listed} (k : ListRead s E U at r) wh
     rest-refused h = record { answer = λ name. rw (list-refused h name); bytes = λ name. rw (list-refused h name) }
 
     pub rest-small : r .number ≡ 0 → length before < E * U → RestRead s E U at before (record { number = 17; place = 0; equations = 0; unknowns = 0 }) before
-    rest-small h l = record { answer = λ name. rw (list-good h name, lt-ltb (length before) (E * U) l); bytes = λ name. rw (list-good h name, lt-ltb (length before) (E * U) l) }
+    rest-small h l = record {
+      answer = λ name. rw (list-good h name, lt-ltb (length before) (E * U) l);
+      bytes = λ name. rw
+          (list-good h name, lt-ltb (length before) (E * U) l);
+    }
 
     pub rest-good : {after : List ℕ} → r .number ≡ 0 → E * U ≤ length before → E * U ≤ length (r .table)
         → after ≡ take (E * U) (r .table) ++ drop (length (take (E * U) (r .table))) before

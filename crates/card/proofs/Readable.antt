@@ -13,7 +13,8 @@ use Rattle.laws.proofs.Tests.{test, either, and-both}
 use Rattle.table.specs.Model.{topCode, countedIn}
 use Rattle.card.specs.Text.{LF, comma, rigKey, equationsKey, unknownsKey, occursKey, endKey, begins, dec, Lines, none, cut, line, linesOf}
 use Rattle.card.specs.Entry.{every, goodName, valueOf, entryOf}
-use Rattle.card.specs.Card.{Judged, refused, good, behind, rigOf, countSaid, countOf, inRange, precedes, turnSaid, cell, finished, turned, listed, counted, headed, named, judged, lineOf, occursLines, occurrences, cardOf}
+use Rattle.card.specs.Card.{Judged, refused, good, behind, rigOf, countSaid, countOf, inRange, precedes, turnSaid, cell, finished, turned}
+use Rattle.card.specs.Card.{listed, counted, headed, named, judged, lineOf, occursLines, occurrences, cardOf}
 use Rattle.card.specs.Steps.{WriteGood}
 use Rattle.card.specs.declared.entry.Value.{Value}
 use Rattle.card.specs.declared.entry.Value.the-variants.{Other, Says}
@@ -49,7 +50,8 @@ unfolding Reached
 reached-after E U c e′ u′ e u k h r p =
     either h
     (λ w. let z = w .1 in omega arith)
-    (λ w. let f = leb-false (cell U e u) (cell U e′ u′) (sym (cells-order U e u e′ u′ (r .e-low) (r .u-low) (r .u-high) (w .0) (w .1) (w .2)) ∙ p) in let z = w .3 in omega arith)
+    (λ w. let f = leb-false (cell U e u) (cell U e′ u′) (sym (cells-order U e u e′ u′ (r .e-low) (r .u-low) (r .u-high) (w .0) (w .1) (w .2)) ∙ p) in
+    let z = w .3 in omega arith)
 
 -- ---- zeros in a table
 
@@ -70,7 +72,8 @@ module _ (name : List ℕ) (E U : ℕ) where
   zeros-rest : (j c : ℕ) (r : List ℕ) (N : ℕ) → rest-of name E U c (replicate j 0 ++ r) N ≡ rest-of name E U (c + j) r N
   zeros-rest zero c r N = ap (λ i. rest-of name E U i r N) (let z : c ≡ c + 0 = omega arith in z)
   zeros-rest (suc j) c r N =
-      rest-none name E U c 0 (replicate j 0 ++ r) N refl ∙ zeros-rest j (c + 1) r N ∙ ap (λ i. rest-of name E U i r N) (let z : c + 1 + j ≡ c + suc j = omega arith in z)
+      rest-none name E U c 0 (replicate j 0 ++ r) N refl ∙ zeros-rest j (c + 1) r N ∙ ap (λ i. rest-of name E U i r N)
+      (let z : c + 1 + j ≡ c + suc j = omega arith in z)
 
   zeros-end : (m c N : ℕ) → rest-of name E U c (replicate m 0) N ≡ lineOf (endKey ++ dec N)
   unfolding rest-of
@@ -120,7 +123,8 @@ module _ (name : List ℕ) (E U : ℕ) where
       }
 
   -- an occurs line
-  occurs-rest : (p : List ℕ) (n c m j m′ : ℕ) (l : List ℕ) (rest : Lines) (name′ : List ℕ) (E′ U′ : ℕ) (T : List ℕ) {e u k : ℕ} → entryOf l ≡ Occurs e u k → Ranged E U e u k
+  occurs-rest : (p : List ℕ) (n c m j m′ : ℕ) (l : List ℕ) (rest : Lines) (name′ : List ℕ) (E′ U′ : ℕ) (T : List ℕ) {e u k : ℕ} → entryOf l ≡ Occurs
+      e u k → Ranged E U e u k
       → c + j ≡ cell U e u → j + suc m′ ≡ m → Rest ((p ++ replicate j 0) ++ (k + 1) ∷ []) (n + 1) (cell U e u + 1) m′ rest name′ E′ U′ T
       → Rest p n c m (line l rest) name′ E′ U′ T
   unfolding textOf
@@ -167,7 +171,8 @@ module _ (name : List ℕ) (E U : ℕ) where
       on : ℕ → ℕ → List ℕ → ℕ → Judged
       on e u t next = listed name E U (n + 1) e u t next rest
 
-      go : (en : Entry) → entryOf l ≡ en → turned name E U n t at (turnSaid E U e′ u′ next en) rest on ≡ good name′ E′ U′ T → Rest p n c m (line l rest) name′ E′ U′ T
+      go : (en : Entry) → entryOf l ≡ en → turned name E U n t at (turnSaid E U e′ u′ next en) rest on ≡ good name′ E′ U′ T → Rest p n c m
+          (line l rest) name′ E′ U′ T
       go Shape en q = refused-good q
       go (End N) en q =
           test (eqb N n)
@@ -189,7 +194,8 @@ module _ (name : List ℕ) (E U : ℕ) where
           let s : set t (cell U e u) (k + 1) ≡ ((p ++ replicate j 0) ++ (k + 1) ∷ []) ++ replicate m′ 0
           = ap (λ i. set (p ++ replicate i 0) (cell U e u) (k + 1)) (sym d) ∙ store p c j m′ (k + 1) (cell U e u) lp a in
           let lp′ : length ((p ++ replicate j 0) ++ (k + 1) ∷ []) ≡ cell U e u + 1
-          = length-append (p ++ replicate j 0) ((k + 1) ∷ []) ∙ ap (λ i. i + 1) (length-append p (replicate j 0)) ∙ (let r = length-replicate {A = ℕ} j 0 in omega arith) in
+          = length-append (p ++ replicate j 0) ((k + 1) ∷ []) ∙ ap (λ i. i + 1) (length-append p (replicate j 0)) ∙
+          (let r = length-replicate {A = ℕ} j 0 in omega arith) in
           occurs-rest p n c m j m′ l rest name′ E′ U′ T en ra a d
           (ih ((p ++ replicate j 0) ++ (k + 1) ∷ []) (n + 1) e u next (cell U e u + 1) m′ name′ E′ U′ T lp′ (omega arith) (reached-some E U e u k ra)
           (ap (λ i. listed name E U (n + 1) e u i next rest) (sym s) ∙ f))))
@@ -206,13 +212,15 @@ module _ (name : List ℕ) (E U : ℕ) where
 uncounted-counts : {A : Type 0} {m n next : ℕ} → Uncounted m ≡ Counts n next → A
 uncounted-counts q = let z : _≡_ {A = ℕ} 0 1 = cc in absurd (omega arith)
 
-count-is : (key : List ℕ) (at : ℕ) (ls : Lines) (n next : ℕ) → countOf key at ls ≡ Counts n next → (textOf ls ≡ (key ++ dec n) ++ LF ∷ textOf (behind ls)) × (countedIn n ≡ true)
+count-is : (key : List ℕ) (at : ℕ) (ls : Lines) (n next : ℕ) → countOf key at ls ≡ Counts n next →
+    (textOf ls ≡ (key ++ dec n) ++ LF ∷ textOf (behind ls)) × (countedIn n ≡ true)
 unfolding textOf
 count-is key at none n next q = uncounted-counts q
 count-is key at (cut l) n next q = uncounted-counts q
 count-is key at (line l rest) n next q = go (valueOf key l) refl q
   where
-    go : (v : Value) → valueOf key l ≡ v → countSaid (at + length l + 1) v ≡ Counts n next → (l ++ LF ∷ textOf rest ≡ (key ++ dec n) ++ LF ∷ textOf rest) × (countedIn n ≡ true)
+    go : (v : Value) → valueOf key l ≡ v → countSaid (at + length l + 1) v ≡ Counts n next →
+        (l ++ LF ∷ textOf rest ≡ (key ++ dec n) ++ LF ∷ textOf rest) × (countedIn n ≡ true)
     go Other p q = uncounted-counts q
     go (Says m) p q =
         test (countedIn m)
@@ -266,7 +274,8 @@ unfolding Claim
 headed-is nm at ls name E U t fine q = first (countOf equationsKey at ls) refl q
   where
     Goal : Type 0
-    Goal = (nm ≡ name) × (textOf ls ≡ (equationsKey ++ dec E) ++ LF ∷ ((unknownsKey ++ dec U) ++ LF ∷ rest-of name E U 0 t (occurrences t))) × WriteGood name E U t
+    Goal = (nm ≡ name) × (textOf ls ≡ (equationsKey ++ dec E) ++ LF ∷ ((unknownsKey ++ dec U) ++ LF ∷ rest-of name E U 0 t (occurrences t))) ×
+        WriteGood name E U t
 
     both : (E′ U′ at₂ at₃ : ℕ) → countOf equationsKey at ls ≡ Counts E′ at₂ → countOf unknownsKey at₂ (behind ls) ≡ Counts U′ at₃
         → listed nm E′ U′ 0 0 0 (replicate (E′ * U′) 0) at₃ (behind (behind ls)) ≡ good name E U t → Goal
@@ -283,8 +292,15 @@ headed-is nm at ls name E U t fine q = first (countOf equationsKey at ls) refl q
         let e₂ : textOf (behind ls) ≡ (unknownsKey ++ dec U′) ++ LF ∷ textOf (behind (behind ls)) = y .0 in
         let e₃ : textOf (behind (behind ls)) ≡ rest-of nm E′ U′ 0 (w .r) (0 + occurrences (w .r)) = w .text in (
           a,
-          e₁ ∙ ap (λ i. (equationsKey ++ dec E′) ++ LF ∷ i) (e₂ ∙ ap (λ i. (unknownsKey ++ dec U′) ++ LF ∷ i) (e₃ ∙ ap (rest-of nm E′ U′ 0 (w .r)) z)) ∙ rewrite-all a b c d,
-          moved a b c d (record { named = fine; limits = and-both (x .1) (y .1); sized = eq-eqb (length (w .r)) (E′ * U′) (w .sized); codes = small-codes (w .r) (w .codes) }),
+          e₁ ∙ ap (λ i. (equationsKey ++ dec E′) ++ LF ∷ i) (e₂ ∙ ap (λ i. (unknownsKey ++ dec U′) ++ LF ∷ i)
+              (e₃ ∙ ap (rest-of nm E′ U′ 0 (w .r)) z)) ∙ rewrite-all a b c d,
+          moved a b c d (record {
+            named = fine;
+            limits = and-both (x .1) (y .1);
+            sized = eq-eqb (length (w .r)) (E′ * U′) (w .sized);
+            codes =
+                small-codes (w .r) (w .codes);
+          }),
         )
 
     second : (E′ at₂ : ℕ) → countOf equationsKey at ls ≡ Counts E′ at₂ → (c : Count) → countOf unknownsKey at₂ (behind ls) ≡ c
@@ -293,14 +309,16 @@ headed-is nm at ls name E U t fine q = first (countOf equationsKey at ls) refl q
     second E′ at₂ p (Counts U′ at₃) r q = both E′ U′ at₂ at₃ p r q
 
     first : (c : Count) → countOf equationsKey at ls ≡ c
-        → counted c at (λ E′ at₂. counted (countOf unknownsKey at₂ (behind ls)) at₂ (λ U′ at₃. listed nm E′ U′ 0 0 0 (replicate (E′ * U′) 0) at₃ (behind (behind ls)))) ≡ good name E U t → Goal
+        → counted c at (λ E′ at₂. counted (countOf unknownsKey at₂ (behind ls)) at₂
+        (λ U′ at₃. listed nm E′ U′ 0 0 0 (replicate (E′ * U′) 0) at₃ (behind (behind ls)))) ≡ good name E U t → Goal
     first (Uncounted m) p q = refused-good q
     first (Counts E′ at₂) p q = second E′ at₂ p (countOf unknownsKey at₂ (behind ls)) refl q
 
 card-text : (name : List ℕ) (E U : ℕ) (t : List ℕ)
     → (rigKey ++ name) ++ LF ∷ ((equationsKey ++ dec E) ++ LF ∷ ((unknownsKey ++ dec U) ++ LF ∷ rest-of name E U 0 t (occurrences t))) ≡ cardOf name E U t
 unfolding cardOf rest-of
-card-text name E U t = sym (regroup (rigKey ++ name) (equationsKey ++ dec E) (unknownsKey ++ dec U) (occursLines U 0 t) (lineOf (endKey ++ dec (occurrences t))))
+card-text name E U t = sym (regroup (rigKey ++ name) (equationsKey ++ dec E) (unknownsKey ++ dec U) (occursLines U 0 t)
+    (lineOf (endKey ++ dec (occurrences t))))
 
 -- a good input is the card of what it says
 pub good-card : (s name : List ℕ) (E U : ℕ) (t : List ℕ) → judged s ≡ good name E U t → IsCard s name E U t
@@ -311,6 +329,12 @@ good-card s name E U t q = go (rigOf (linesOf s)) refl q
     go (Named e) p q =
         let k = rig-is (linesOf s) e p in
         let x : s ≡ (rigKey ++ k .nm) ++ LF ∷ textOf (behind (linesOf s)) = sym (text-lines s) ∙ k .text in
-        let y : drop (length rigKey) (take e s) ≡ k .nm = ap (λ i. drop (length rigKey) (take e i)) x ∙ ap (drop (length rigKey)) (take-at (rigKey ++ k .nm) (LF ∷ textOf (behind (linesOf s))) e (k .long)) in
+        let y : drop (length rigKey) (take e s) ≡ k .nm = ap (λ i. drop (length rigKey) (take e i)) x ∙ ap (drop (length rigKey))
+        (take-at (rigKey ++ k .nm) (LF ∷ textOf (behind (linesOf s))) e (k .long)) in
         let h = headed-is (k .nm) (e + 1) (behind (linesOf s)) name E U t (k .fine) (ap (λ i. headed i (e + 1) (behind (linesOf s))) (sym y) ∙ q) in
-        record { bytes = x ∙ ap (λ i. (rigKey ++ k .nm) ++ LF ∷ i) (h .1) ∙ ap (λ i. (rigKey ++ i) ++ LF ∷ ((equationsKey ++ dec E) ++ LF ∷ ((unknownsKey ++ dec U) ++ LF ∷ rest-of name E U 0 t (occurrences t)))) (h .0) ∙ card-text name E U t; fine = h .2 }
+        record {
+          bytes = x ∙ ap (λ i. (rigKey ++ k .nm) ++ LF ∷ i) (h .1) ∙ ap
+              (λ i. (rigKey ++ i) ++ LF ∷ ((equationsKey ++ dec E) ++ LF ∷ ((unknownsKey ++ dec U) ++ LF ∷ rest-of name E U 0 t (occurrences t))))
+              (h .0) ∙ card-text name E U t;
+          fine = h .2;
+        }

@@ -1,4 +1,5 @@
--- What the promises of `read`, `write` and `name_of` come to: one outcome each, both round trips, which inputs are good, what a refusal leaves alone, and the bounds of every number.
+-- What the promises of `read`, `write` and `name_of` come to: one outcome each, both round trips, which inputs are good,
+-- what a refusal leaves alone, and the bounds of every number.
 use mathlib.Core.Path.{_≡_, refl, ap, sym, _∙_}
 use mathlib.Core.List.{List, [], _∷_, _++_}
 use mathlib.Core.Logic.{_↔_}
@@ -28,13 +29,15 @@ use Rattle.card.proofs.Places.{places}
 pub read-one : {s before after after′ : List ℕ} {r r′ : Reading} → ReadDone s before r after → ReadDone s before r′ after′ → (r ≡ r′) × (after ≡ after′)
 read-one k l = (k .answer ∙ sym (l .answer), k .bytes ∙ sym (l .bytes))
 
-pub write-one : {name t before after after′ : List ℕ} {E U : ℕ} {r r′ : Writing} → WriteDone name E U t before r after → WriteDone name E U t before r′ after′ → (r ≡ r′) × (after ≡ after′)
+pub write-one : {name t before after after′ : List ℕ} {E U : ℕ} {r r′ : Writing} → WriteDone name E U t before r after → WriteDone name E U t before
+    r′ after′ → (r ≡ r′) × (after ≡ after′)
 write-one {name} {t} {before} {after} {after′} {E} {U} k l =
     let e = k .answer ∙ sym (l .answer) in
     (e, k .bytes ∙ ap (λ w. cardAfter before w (cardOf name E U t)) e ∙ sym (l .bytes))
 
 -- the part's bytes and its place; its ghost name is no part of the outcome
-pub name-one : {card part part′ : RefT (List ℕ)} → NamePart card part → NamePart card part′ → (part .now ≡ part′ .now) × (part .ptr .0 ≡ part′ .ptr .0) × (part .ptr .1 ≡ part′ .ptr .1)
+pub name-one : {card part part′ : RefT (List ℕ)} → NamePart card part → NamePart card part′ → (part .now ≡ part′ .now) ×
+    (part .ptr .0 ≡ part′ .ptr .0) × (part .ptr .1 ≡ part′ .ptr .1)
 name-one k l = (k .bytes ∙ sym (l .bytes), k .block ∙ sym (l .block), k .place ∙ sym (l .place))
 
 -- ---- which inputs are good
@@ -94,7 +97,8 @@ read-good {s} {before} {after} {r} k z = go (judged s) refl
         })
 
 -- any other number: no table byte has changed, and E and U are 0
-pub read-refused : {s before after : List ℕ} {r : Reading} → ReadDone s before r after → (r .number ≡ 0 → ⊥) → (after ≡ before) × (r .equations ≡ 0) × (r .unknowns ≡ 0)
+pub read-refused : {s before after : List ℕ} {r : Reading} → ReadDone s before r after → (r .number ≡ 0 → ⊥) → (after ≡ before) × (r .equations ≡ 0)
+    × (r .unknowns ≡ 0)
 read-refused {s} {before} {after} {r} k n = go (judged s) refl
   where
     go : (j : Judged) → judged s ≡ j → (after ≡ before) × (r .equations ≡ 0) × (r .unknowns ≡ 0)
@@ -105,7 +109,8 @@ read-refused {s} {before} {after} {r} k n = go (judged s) refl
         let a : r ≡ readOf (length before) (good name E U t) = k .answer ∙ ap (readOf (length before)) p in
         let c : after ≡ tableOf before (good name E U t) = k .bytes ∙ ap (tableOf before) p in
         test (ltb (length before) (E * U))
-        (λ h. let d : r ≡ record { number = 17; place = 0; equations = 0; unknowns = 0 } = rw h at a in (rw h at c, ap (λ x. x .equations) d, ap (λ x. x .unknowns) d))
+        (λ h. let d : r ≡ record { number = 17; place = 0; equations = 0; unknowns = 0 } = rw h at a in
+        (rw h at c, ap (λ x. x .equations) d, ap (λ x. x .unknowns) d))
         (λ h. let d : r ≡ record { number = 0; place = 0; equations = E; unknowns = U } = rw h at a in absurd (n (ap (λ x. x .number) d)))
 
 -- the bounds by which every answer fits what is printed and packed
@@ -124,7 +129,8 @@ read-fits {s} {before} {after} {r} k = go (judged s) refl
     go : (j : Judged) → judged s ≡ j → ReadFits r
     go (refused m at) p =
         let l = places s m at p in
-        at-most (k .answer ∙ ap (readOf (length before)) p) (record { number = let h = l .to in omega arith; place = l .place; equations = omega arith; unknowns = omega arith })
+        at-most (k .answer ∙ ap (readOf (length before)) p) (record
+        { number = let h = l .to in omega arith; place = l .place; equations = omega arith; unknowns = omega arith })
     go (good name E U t) p =
         let a : r ≡ readOf (length before) (good name E U t) = k .answer ∙ ap (readOf (length before)) p in
         let i = good-card s name E U t p in
@@ -145,7 +151,8 @@ pub record WroteGood (name : List ℕ) (E U : ℕ) (t before : List ℕ) (r : Wr
 none-written : {A : Type 0} {m at : ℕ} {r : Writing} → r ≡ wroteNone m at → (m ≡ 0 → ⊥) → r .number ≡ 0 → A
 none-written e n z = absurd (n (sym (ap (λ x. x .number) e) ∙ z))
 
-pub write-good : {name t before after : List ℕ} {E U : ℕ} {r : Writing} → WriteDone name E U t before r after → r .number ≡ 0 → WroteGood name E U t before r after
+pub write-good : {name t before after : List ℕ} {E U : ℕ} {r : Writing} → WriteDone name E U t before r after → r .number ≡ 0 → WroteGood name E U t
+    before r after
 write-good {name} {t} {before} {after} {E} {U} {r} k z =
     test (goodName name)
     (λ a. test (inLimits E U)
@@ -171,7 +178,8 @@ pub write-refused : {name t before after : List ℕ} {E U : ℕ} {r : Writing} �
 write-refused {name} {t} {before} {after} {E} {U} {r} k n = k .bytes ∙ rw (ne-eqb (r .number) 0 n)
 
 -- with nothing that applies and room enough it is written
-pub write-succeeds : {name t before after : List ℕ} {E U : ℕ} {r : Writing} → WriteDone name E U t before r after → WriteGood name E U t → length (cardOf name E U t) ≤ length before → r .number ≡ 0
+pub write-succeeds : {name t before after : List ℕ} {E U : ℕ} {r : Writing} → WriteDone name E U t before r after → WriteGood name E U t → length
+    (cardOf name E U t) ≤ length before → r .number ≡ 0
 write-succeeds {name} {t} {before} {after} {E} {U} {r} k g h =
     let a : writeOf (length before) name E U t ≡ record { number = 0; place = 0; length = length (cardOf name E U t) }
     = rw (g .named, g .limits, g .sized, g .codes, le-leb (length (cardOf name E U t)) (length before) h) in
@@ -179,7 +187,8 @@ write-succeeds {name} {t} {before} {after} {E} {U} {r} k g h =
 
 -- ---- there and back
 
-moved : {name name′ t t′ before after : List ℕ} {E E′ U U′ : ℕ} {w : Writing} → name′ ≡ name → E′ ≡ E → U′ ≡ U → t′ ≡ t → WriteDone name′ E′ U′ t′ before w after → WriteDone name E U t before w after
+moved : {name name′ t t′ before after : List ℕ} {E E′ U U′ : ℕ} {w : Writing} → name′ ≡ name → E′ ≡ E → U′ ≡ U → t′ ≡ t → WriteDone name′ E′ U′ t′
+    before w after → WriteDone name E U t before w after
 moved a b c d k = rw (a, b, c, d) at k
 
 -- a good card read and written again has the same bytes
@@ -196,8 +205,12 @@ card-again {s} {table} {table′} {before} {after} {r} {w} k z l room =
     let v = moved (ap nameOf (y .is)) (g .equations) (g .unknowns) a l in
     let c : length s ≡ length (cardOf (y .name) (y .E) (y .U) (y .t)) = ap length b in
     let n = write-succeeds v (g .card .fine) (omega arith) in
-    let o = write-good v n in
-    (n, o .length-is ∙ sym c, ap (take (length s)) (o .bytes) ∙ take-at (cardOf (y .name) (y .E) (y .U) (y .t)) (drop (length (cardOf (y .name) (y .E) (y .U) (y .t))) before) (length s) (sym c) ∙ sym b)
+    let o = write-good v n in (
+      n,
+      o .length-is ∙ sym c,
+      ap (take (length s)) (o .bytes) ∙ take-at (cardOf (y .name) (y .E) (y .U) (y .t))
+          (drop (length (cardOf (y .name) (y .E) (y .U) (y .t))) before) (length s) (sym c) ∙ sym b,
+    )
 
 -- a good name and table written and read again come back the same, and the name question gives that name
 pub table-again : {name t before after table table′ : List ℕ} {E U : ℕ} {w : Writing} {r : Reading} → WriteDone name E U t before w after → w .number ≡ 0
@@ -208,7 +221,8 @@ table-again {name} {t} {before} {after} {table} {table′} {E} {U} {w} {r} k z l
     let c : take (w .length) after ≡ cardOf name E U t
     = ap (take (w .length)) (o .bytes) ∙ take-at (cardOf name E U t) (drop (length (cardOf name E U t)) before) (w .length) (sym (o .length-is)) in
     let j : judged (take (w .length) after) ≡ good name E U t = ap judged c ∙ written-good name E U t (o .fine) in
-    let a : r ≡ record { number = 0; place = 0; equations = E; unknowns = U } = l .answer ∙ ap (readOf (length table)) j ∙ rw (le-ltb (length table) (E * U) room) in
+    let a : r ≡ record { number = 0; place = 0; equations = E; unknowns = U } = l .answer ∙ ap (readOf (length table)) j ∙ rw
+    (le-ltb (length table) (E * U) room) in
     let b : table′ ≡ t ++ drop (E * U) table = l .bytes ∙ ap (tableOf table) j ∙ rw (le-ltb (length table) (E * U) room) in (
       ap (λ x. x .number) a,
       ap (λ x. x .equations) a,

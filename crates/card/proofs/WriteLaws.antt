@@ -44,7 +44,14 @@ line-short : (U cell code : ℕ) → length (occursLine U cell code) ≤ 22
 line-short U cell code =
     test (eqb code 0)
     (λ t. rw t (omega arith))
-    (λ t. rw t (omega (arith, occurs-length (cell / U + 1) (cell % U + 1) (code - 1), dec-short (cell / U + 1), dec-short (cell % U + 1), dec-short (code - 1))))
+    (λ t. rw t (omega (
+      arith,
+      occurs-length (cell / U + 1) (cell % U + 1) (code - 1),
+      dec-short (cell / U + 1),
+      dec-short (cell % U + 1),
+      dec-short
+          (code - 1),
+    )))
 
 -- the lines of one list behind those of another
 pub lines-append : (U at : ℕ) (xs ys : List ℕ) → occursLines U at (xs ++ ys) ≡ occursLines U at xs ++ occursLines U (at + length xs) ys
@@ -54,7 +61,8 @@ lines-append U at (x ∷ xs) ys =
     rw (z, lines-append U (at + 1) xs ys) (sym (append-assoc (occursLine U at x) (occursLines U (at + 1) xs) (occursLines U (at + 1 + length xs) ys)))
 
 -- one more byte of the table, one more line
-lines-step : (U : ℕ) (t : List ℕ) (cell : ℕ) → cell < length t → occursLines U 0 (take cell t) ++ occursLine U cell (getD t cell 0) ≡ occursLines U 0 (take (cell + 1) t)
+lines-step : (U : ℕ) (t : List ℕ) (cell : ℕ) → cell < length t → occursLines U 0 (take cell t) ++ occursLine U cell (getD t cell 0) ≡ occursLines U 0
+    (take (cell + 1) t)
 lines-step U t cell h =
     let x = getD t cell 0 in
     let z : 0 + length (take cell t) ≡ cell = rw (length-take-le cell t (omega arith)) (omega arith) in
@@ -82,7 +90,8 @@ celling-step {before} {t} {now} {after} {at} {U} {next} {cell} {r} k h p =
       run = laid-same (lines-step U t cell h) (laid-then (k .run) p);
     }
 
-pub celling-end : {before t now : List ℕ} {at U next cell : ℕ} → Celling before at U t now next cell → length t ≤ cell → Laid before at (occursLines U 0 t) now next
+pub celling-end : {before t now : List ℕ} {at U next cell : ℕ} → Celling before at U t now next cell → length t ≤ cell → Laid before at
+    (occursLines U 0 t) now next
 celling-end {before} {t} {now} {at} {U} {next} {cell} k h =
     let w = k .within in
     let e : cell ≡ length t = omega arith in
@@ -120,7 +129,8 @@ counting-end {t} {count} {cell} k h = let e : occurrences (drop cell t) ≡ 0 = 
 -- ---- the whole card
 
 pub card-parts : (name : List ℕ) (E U : ℕ) (t : List ℕ)
-    → lineOf (rigKey ++ name) ++ lineOf (equationsKey ++ dec E) ++ lineOf (unknownsKey ++ dec U) ++ occursLines U 0 t ++ lineOf (endKey ++ dec (occurrences t)) ≡ cardOf name E U t
+    → lineOf (rigKey ++ name) ++ lineOf (equationsKey ++ dec E) ++ lineOf (unknownsKey ++ dec U) ++ occursLines U 0 t ++ lineOf
+    (endKey ++ dec (occurrences t)) ≡ cardOf name E U t
 unfolding cardOf
 card-parts name E U t = refl
 
@@ -134,7 +144,8 @@ lines-short U at [] = omega arith
 lines-short U at (x ∷ t) = rw (length-append (occursLine U at x) (occursLines U (at + 1) t)) (omega (arith, line-short U at x, lines-short U (at + 1) t))
 
 -- the first three lines are at most this long
-pub head-short : (name : List ℕ) (E U : ℕ) → length name ≤ 24 → length (lineOf (rigKey ++ name) ++ lineOf (equationsKey ++ dec E) ++ lineOf (unknownsKey ++ dec U)) ≤ 58
+pub head-short : (name : List ℕ) (E U : ℕ) → length name ≤ 24 → length
+    (lineOf (rigKey ++ name) ++ lineOf (equationsKey ++ dec E) ++ lineOf (unknownsKey ++ dec U)) ≤ 58
 head-short name E U h = simp length-append (omega (arith, dec-short E, dec-short U))
 
 -- ---- the writer
@@ -161,7 +172,8 @@ module _ {name : List ℕ} {E U : ℕ} {t : List ℕ} (before : List ℕ) where
   pub write-2 : {r : Writing} → r ≡ wroteNone 2 0 → goodName name ≡ true → inLimits E U ≡ true → wellSized E U t ≡ false → WriteDone name E U t before r before
   write-2 e a b c = let d : eqb (length t) (E * U) ≡ false = rw b at c in rw e (record { answer = rw (a, b, d); bytes = refl })
 
-  pub write-4 : {r : Writing} {at : ℕ} → r ≡ wroteNone 4 at → at ≡ firstAbove t → goodName name ≡ true → inLimits E U ≡ true → eqb (length t) (E * U) ≡ true → (at ≡ length t → ⊥)
+  pub write-4 : {r : Writing} {at : ℕ} → r ≡ wroteNone 4 at → at ≡ firstAbove t → goodName name ≡ true → inLimits E U ≡ true → eqb (length t) (E * U)
+      ≡ true → (at ≡ length t → ⊥)
       → WriteDone name E U t before r before
   write-4 {r} {at} e f a b c d = rw e (record { answer = rw (a, b, c, ← f, ne-eqb at (length t) d); bytes = refl })
 
@@ -169,7 +181,8 @@ module _ {name : List ℕ} {E U : ℕ} {t : List ℕ} (before : List ℕ) where
     pub write-18 : {r : Writing} → r ≡ wroteNone 18 0 → length before < length (cardOf name E U t) → WriteDone name E U t before r before
     write-18 e h = rw e (record { answer = rw (g .named, g .limits, g .sized, g .codes, lt-leb (length (cardOf name E U t)) (length before) h); bytes = refl })
 
-    pub write-0 : {after : List ℕ} {m next : ℕ} → m ≡ length (cardOf name E U t) → length (cardOf name E U t) ≤ length before → Laid before 0 (cardOf name E U t) after next
+    pub write-0 : {after : List ℕ} {m next : ℕ} → m ≡ length (cardOf name E U t) → length (cardOf name E U t) ≤ length before → Laid before 0
+        (cardOf name E U t) after next
         → WriteDone name E U t before (record { number = 0; place = 0; length = m }) after
     write-0 {after} {m} e h k =
         let z : 0 + length (cardOf name E U t) ≡ length (cardOf name E U t) = omega arith in

@@ -13,7 +13,8 @@ use Rattle.table.specs.Model.{limit, topCode, countedIn, inLimits, firstAbove}
 use Rattle.table.proofs.Model.{limits}
 use Rattle.card.specs.Text.{LF, comma, rigKey, equationsKey, unknownsKey, occursKey, endKey, dec, Lines, none, line, linesOf}
 use Rattle.card.specs.Entry.{nameByte, every, entryOf}
-use Rattle.card.specs.Card.{good, rigOf, countSaid, countOf, inRange, precedes, cell, listed, headed, named, judged, lineOf, occursLines, occurrences, cardOf}
+use Rattle.card.specs.Card.{good, rigOf, countSaid, countOf, inRange, precedes, cell, listed, headed, named, judged, lineOf, occursLines}
+use Rattle.card.specs.Card.{occurrences, cardOf}
 use Rattle.card.specs.Steps.{WriteGood}
 use Rattle.card.specs.declared.entry.Entry.the-variants.{Occurs, End}
 use Rattle.card.specs.declared.judge.Rig.the-variants.{Named}
@@ -70,7 +71,8 @@ module _ (name : List ℕ) (E U : ℕ) where
   unfolding rest-of
   rest-some c x r N h =
       let l = occursKey ++ dec (c / U + 1) ++ comma ∷ dec (c % U + 1) ++ comma ∷ dec (x - 1) in
-      rw h (append-assoc (lineOf l) (occursLines U (c + 1) r) (lineOf (endKey ++ dec N)) ∙ append-assoc l (LF ∷ []) (occursLines U (c + 1) r ++ lineOf (endKey ++ dec N)))
+      rw h (append-assoc (lineOf l) (occursLines U (c + 1) r) (lineOf (endKey ++ dec N)) ∙ append-assoc l (LF ∷ [])
+      (occursLines U (c + 1) r ++ lineOf (endKey ++ dec N)))
 
   -- a byte of the table whose code is 0 is passed over
   zero-step : (p r : List ℕ) (c x N n e′ u′ at : ℕ) → eqb x 0 ≡ true
@@ -84,7 +86,8 @@ module _ (name : List ℕ) (E U : ℕ) where
   -- any other has its line, which says its pair and its code
   some-step : (p r : List ℕ) (c x N n e′ u′ at : ℕ) → length p ≡ c → eqb x 0 ≡ false → c / U + 1 ≤ 9999 → c % U + 1 ≤ 9999 → x - 1 ≤ 9999
       → inRange E U (c / U + 1) (c % U + 1) (x - 1) ≡ true → precedes (c / U + 1) (c % U + 1) e′ u′ ≡ false
-      → ((next : ℕ) → listed name E U (n + 1) (c / U + 1) (c % U + 1) ((p ++ x ∷ []) ++ replicate (length r) 0) next (linesOf (rest-of (c + 1) r N)) ≡ good name E U ((p ++ x ∷ []) ++ r))
+      → ((next : ℕ) → listed name E U (n + 1) (c / U + 1) (c % U + 1) ((p ++ x ∷ []) ++ replicate (length r) 0) next (linesOf (rest-of (c + 1) r N))
+      ≡ good name E U ((p ++ x ∷ []) ++ r))
       → listed name E U n e′ u′ (p ++ 0 ∷ replicate (length r) 0) at (linesOf (rest-of c (x ∷ r) N)) ≡ good name E U (p ++ x ∷ r)
   some-step p r c x N n e′ u′ at lp h a b d ran aft w =
       let e = c / U + 1 in let u = c % U + 1 in let k = x - 1 in
@@ -93,7 +96,8 @@ module _ (name : List ℕ) (E U : ℕ) where
       let stored : set (p ++ 0 ∷ replicate (length r) 0) (cell U e u) (k + 1) ≡ (p ++ x ∷ []) ++ replicate (length r) 0
       = ap (λ i. set (p ++ 0 ∷ replicate (length r) 0) i (k + 1)) (cell-of U c) ∙ ap (set (p ++ 0 ∷ replicate (length r) 0) c) z
       ∙ set-at p 0 (replicate (length r) 0) x c lp ∙ sym (append-assoc p (x ∷ []) (replicate (length r) 0)) in
-      ap (listed name E U n e′ u′ (p ++ 0 ∷ replicate (length r) 0) at) (ap linesOf (rest-some c x r N h) ∙ lines-of l (rest-of (c + 1) r N) (occurs-clear e u k a b d))
+      ap (listed name E U n e′ u′ (p ++ 0 ∷ replicate (length r) 0) at)
+      (ap linesOf (rest-some c x r N h) ∙ lines-of l (rest-of (c + 1) r N) (occurs-clear e u k a b d))
       ∙ listed-occurs n e′ u′ at (p ++ 0 ∷ replicate (length r) 0) l (linesOf (rest-of (c + 1) r N)) (entry-occurs e u k a b d) ran aft
       ∙ ap (λ t. listed name E U (n + 1) e u t (at + length l + 1) (linesOf (rest-of (c + 1) r N))) stored
       ∙ w (at + length l + 1) ∙ ap (good name E U) (append-assoc p (x ∷ []) r)
@@ -103,10 +107,12 @@ module _ (name : List ℕ) (E U : ℕ) where
   in-range c x lo l s =
       let k = placed E U c lo l in
       let v = leb-true x topCode s in
-      and-both (and-both (and-both (le-leb 1 (c / U + 1) (omega arith)) (le-leb (c / U + 1) E (k .e-high))) (and-both (le-leb 1 (c % U + 1) (omega arith)) (le-leb (c % U + 1) U (k .u-high)))) (le-leb (x - 1) 3 (omega arith))
+      and-both (and-both (and-both (le-leb 1 (c / U + 1) (omega arith)) (le-leb (c / U + 1) E (k .e-high)))
+      (and-both (le-leb 1 (c % U + 1) (omega arith)) (le-leb (c % U + 1) U (k .u-high)))) (le-leb (x - 1) 3 (omega arith))
 
   module _ (lim : inLimits E U ≡ true) where
-    listed-reads : (r p : List ℕ) (n e′ u′ at N c : ℕ) → length p ≡ c → c + length r ≡ E * U → every small r ≡ true → Behind U c e′ u′ → N ≡ n + occurrences r → N ≤ 9999
+    listed-reads : (r p : List ℕ) (n e′ u′ at N c : ℕ) → length p ≡ c → c + length r ≡ E * U → every small r ≡ true → Behind U c e′ u′ → N ≡ n +
+        occurrences r → N ≤ 9999
         → listed name E U n e′ u′ (p ++ replicate (length r) 0) at (linesOf (rest-of c r N)) ≡ good name E U (p ++ r)
     unfolding rest-of
     listed-reads [] p n e′ u′ at N c lp len sm bh cnt top =
@@ -132,7 +138,8 @@ module _ (name : List ℕ) (E U : ℕ) where
         let lp′ : length (p ++ x ∷ []) ≡ c + 1 = length-append p (x ∷ []) ∙ omega arith in
         let co : cell U (c / U + 1) (c % U + 1) ≡ c = cell-of U c in
         let x-top = leb-true x topCode sx in
-        let bh′ : Behind U (c + 1) (c / U + 1) (c % U + 1) = behind-some U (c + 1) (c / U + 1) (c % U + 1) (omega arith) (omega arith) (pl .u-high) (omega arith) in
+        let bh′ : Behind U (c + 1) (c / U + 1) (c % U + 1) = behind-some U (c + 1) (c / U + 1) (c % U + 1) (omega arith) (omega arith) (pl .u-high)
+        (omega arith) in
         some-step p r c x N n e′ u′ at lp h (let q = pl .e-high in omega arith) (let q = pl .u-high in omega arith) (omega arith) (in-range c x lo within sx)
         (behind-after U c e′ u′ (c / U + 1) (c % U + 1) bh (omega arith) (omega arith) (pl .u-high) (omega arith))
         (λ next. listed-reads r (p ++ x ∷ []) (n + 1) (c / U + 1) (c % U + 1) next N (c + 1) lp′ (omega arith) sr bh′ cnt′ top))
@@ -160,7 +167,7 @@ module _ (name : List ℕ) (E U : ℕ) (t : List ℕ) (g : WriteGood name E U t)
   name-bytes : every nameByte name ≡ true
   name-bytes = and-right (leb 1 (length name) && leb (length name) 24) (every nameByte name) (g .named)
 
-  limited : (E ≤ 32) × (U ≤ 32)
+  limited : (E ≤ limit) × (U ≤ limit)
   limited = let b = limits E U (g .limits) in (b .0 .high, b .1 .high)
 
   codes-few : N ≤ 9999
@@ -172,22 +179,26 @@ module _ (name : List ℕ) (E U : ℕ) (t : List ℕ) (g : WriteGood name E U t)
       let m = cells-within E U (g .limits) in
       omega arith
 
-  lines-are : linesOf (cardOf name E U t) ≡ line (rigKey ++ name) (line (equationsKey ++ dec E) (line (unknownsKey ++ dec U) (linesOf (rest-of name E U 0 t N))))
+  lines-are : linesOf (cardOf name E U t) ≡ line (rigKey ++ name) (line (equationsKey ++ dec E)
+      (line (unknownsKey ++ dec U) (linesOf (rest-of name E U 0 t N))))
   unfolding third second
   lines-are =
       ap linesOf card-is
       ∙ lines-of (rigKey ++ name) second (rig-clear rigKey name refl name-bytes)
       ∙ ap (line (rigKey ++ name))
       (lines-of (equationsKey ++ dec E) third (value-clear equationsKey E refl (let b = limited in omega arith))
-      ∙ ap (line (equationsKey ++ dec E)) (lines-of (unknownsKey ++ dec U) (rest-of name E U 0 t N) (value-clear unknownsKey U refl (let b = limited in omega arith))))
+      ∙ ap (line (equationsKey ++ dec E)) (lines-of (unknownsKey ++ dec U) (rest-of name E U 0 t N)
+      (value-clear unknownsKey U refl (let b = limited in omega arith))))
 
   name-is : drop (length rigKey) (take (length (rigKey ++ name)) (cardOf name E U t)) ≡ name
-  name-is = ap (λ s. drop (length rigKey) (take (length (rigKey ++ name)) s)) card-is ∙ ap (drop (length rigKey)) (take-at (rigKey ++ name) (LF ∷ second) (length (rigKey ++ name)) refl)
+  name-is = ap (λ s. drop (length rigKey) (take (length (rigKey ++ name)) s)) card-is ∙ ap (drop (length rigKey))
+      (take-at (rigKey ++ name) (LF ∷ second) (length (rigKey ++ name)) refl)
 
   rig-named : (rest : Lines) → rigOf (line (rigKey ++ name) rest) ≡ Named (length (rigKey ++ name))
   rig-named rest = rw (g .named)
 
-  count-said : (key : List ℕ) (n at : ℕ) (rest : Lines) → n ≤ 32 → countedIn n ≡ true → countOf key at (line (key ++ dec n) rest) ≡ Counts n (at + length (key ++ dec n) + 1)
+  count-said : (key : List ℕ) (n at : ℕ) (rest : Lines) → n ≤ limit → countedIn n ≡ true → countOf key at (line (key ++ dec n) rest) ≡ Counts n
+      (at + length (key ++ dec n) + 1)
   count-said key n at rest h c = ap (countSaid (at + length (key ++ dec n) + 1)) (value-dec key n (omega arith)) ∙ rw c
 
   head-read : (at : ℕ) (rest : Lines)
@@ -208,7 +219,8 @@ module _ (name : List ℕ) (E U : ℕ) (t : List ℕ) (g : WriteGood name E U t)
       let at = length (rigKey ++ name) + 1 in
       let rest = linesOf (rest-of name E U 0 t N) in
       ap (λ ls. named (cardOf name E U t) (rigOf ls) ls) lines-are
-      ∙ ap (λ r. named (cardOf name E U t) r (line (rigKey ++ name) (line (equationsKey ++ dec E) (line (unknownsKey ++ dec U) rest)))) (rig-named (line (equationsKey ++ dec E) (line (unknownsKey ++ dec U) rest)))
+      ∙ ap (λ r. named (cardOf name E U t) r (line (rigKey ++ name) (line (equationsKey ++ dec E) (line (unknownsKey ++ dec U) rest))))
+      (rig-named (line (equationsKey ++ dec E) (line (unknownsKey ++ dec U) rest)))
       ∙ ap (λ m. headed m at (line (equationsKey ++ dec E) (line (unknownsKey ++ dec U) rest))) name-is
       ∙ head-read at rest
       ∙ ap (λ m. listed name E U 0 0 0 (replicate m 0) (at + length (equationsKey ++ dec E) + 1 + length (unknownsKey ++ dec U) + 1) rest) (sym s)

@@ -58,11 +58,13 @@ inRange E U e u k = ((leb 1 e && leb e E) && (leb 1 u && leb u U)) && leb k 3
 abbrev pub precedes : ℕ → ℕ → ℕ → ℕ → Bool
 precedes e u e′ u′ = ltb e e′ || (eqb e e′ && leb u u′)
 
+abbrev pub pairSaid : ℕ → ℕ → ℕ → ℕ → Turn
+pairSaid e u k next = Next (record { equation = record { 0 = e }; unknown = record { 0 = u } }) (k + 1) next
+
 -- a line after the unknowns line: refused 11, 14 or 15, or its pair with the code k + 1, or the end line with its number; and where the next line starts
 abbrev pub turnSaid : ℕ → ℕ → ℕ → ℕ → ℕ → Entry → Turn
 turnSaid E U e′ u′ next Shape = Refused 11
-turnSaid E U e′ u′ next (Occurs e u k) =
-    pick (inRange E U e u k) (pick (precedes e u e′ u′) (Refused 15) (Next (record { equation = record { 0 = e }; unknown = record { 0 = u } }) (k + 1) next)) (Refused 14)
+turnSaid E U e′ u′ next (Occurs e u k) = pick (inRange E U e u k) (pick (precedes e u e′ u′) (Refused 15) (pairSaid e u k next)) (Refused 14)
 turnSaid E U e′ u′ next (End n) = Last n next
 
 abbrev pub turnOf : ℕ → ℕ → ℕ → ℕ → ℕ → Lines → Turn
@@ -154,10 +156,13 @@ abbrev pub occurrences : List ℕ → ℕ
 occurrences [] = 0
 occurrences (code ∷ t) = pick (eqb code 0) (occurrences t) (occurrences t + 1)
 
+-- `rig=NAME`, `equations=E`, `unknowns=U`
+abbrev pub headLines : List ℕ → ℕ → ℕ → List ℕ
+headLines name E U = lineOf (rigKey ++ name) ++ lineOf (equationsKey ++ dec E) ++ lineOf (unknownsKey ++ dec U)
+
+-- the card: the first three lines, the occurs lines, and `end=N` with N the number of occurs lines
 unfoldable pub cardOf : List ℕ → ℕ → ℕ → List ℕ → List ℕ
-cardOf name E U t =
-    lineOf (rigKey ++ name) ++ lineOf (equationsKey ++ dec E) ++ lineOf (unknownsKey ++ dec U)
-    ++ occursLines U 0 t ++ lineOf (endKey ++ dec (occurrences t))
+cardOf name E U t = headLines name E U ++ occursLines U 0 t ++ lineOf (endKey ++ dec (occurrences t))
 
 -- what the writer hands back, with room for so many card bytes: "12, 13, 2, 4, 18 in that order"
 abbrev pub wroteNone : ℕ → ℕ → Writing

@@ -4,7 +4,7 @@ use mathlib.Core.Bool.{true}
 use mathlib.Core.List.{List}
 use Prim.Native.Nat.{ℕ, _+_, _*_, _≤_}
 use denote.Ref.{RefT}
-use lib.Dec.{eqb}
+use lib.Dec.{eqb, ltb}
 use lib.ListN.{length, take, drop, replicate}
 use lib.Seq.{sets}
 use Rattle.laws.specs.Tab.{pick}
@@ -16,6 +16,7 @@ use Rattle.card.specs.declared.Reading.{Reading}
 use Rattle.card.specs.declared.Writing.{Writing}
 use Rattle.card.specs.declared.judge.Head.{Head}
 use Rattle.card.specs.declared.judge.Head.the-variants.{Faulty, Start}
+use Rattle.card.specs.declared.list.Ending.{Ending}
 use Rattle.card.specs.declared.list.Listed.{Listed}
 
 -- what is left to judge behind the unknowns line
@@ -36,6 +37,10 @@ pub record HeadRead (s : List ℕ) (r : Head) : Type 0 where
 pub record CountsRead (s : List ℕ) (end : ℕ) (r : Head) : Type 0 where
   pub same : headed (drop (length rigKey) (take end s)) (end + 1) (linesOf (drop (end + 1) s)) ≡ fromHead s r
   pub fits : HeadFits s r
+
+-- the end line at `at`, with the next line's start and the card's length: 16, bytes behind it, or good
+abbrev pub endSaid : ℕ → ℕ → ℕ → ℕ → ℕ → Ending
+endSaid size said count at next = pick (eqb said count) (pick (ltb next size) (record { 0 = 11; 1 = next }) (record { 0 = 0; 1 = 0 })) (record { 0 = 16; 1 = at })
 
 -- what the list of occurs lines comes to: number 0 for a good one, and the table in the first E × U bytes
 abbrev pub fromList : List ℕ → ℕ → ℕ → Listed → Judged

@@ -7,12 +7,12 @@ use crate::put::put_number;
 use table::number::Equation;
 use table::number::Unknown;
 ghost use mathlib.Core.Path.{_≡_};
-ghost use mathlib.Core.List.{List, [], _∷_, _++_};
+ghost use mathlib.Core.List.{_∷_, _++_};
 ghost use Prim.Native.Nat.{_+_, _*_, _^_, _≤_, _<_};
 ghost use lib.ListN.{length};
 ghost use Rattle.table.specs.Model.{limit};
-ghost use Rattle.card.specs.Text.{rigKey, equationsKey, unknownsKey, occursKey, comma, dec};
-ghost use Rattle.card.specs.Card.{lineOf, occursLine, occursLines, occurrences, cardOf};
+ghost use Rattle.card.specs.Text.{occursKey, comma, dec};
+ghost use Rattle.card.specs.Card.{lineOf, occursLine, occursLines, occurrences, headLines, cardOf};
 ghost use Rattle.card.specs.Steps.{Laid};
 
 // `occurs=e,u,k`
@@ -79,7 +79,7 @@ fn count_codes(table: &[u8]) -> usize
 // The first three lines, from the first byte on.
 fn put_head(card: &mut [u8], name: &[u8], equations: usize, unknowns: usize) -> usize
     requires { ⌜ length (now name) ≤ 24 ⌝ }
-    ensures { λ r. ⌜ Laid (now (card .entry)) 0 (lineOf (rigKey ++ now (name .entry)) ++ lineOf (equationsKey ++ dec equations) ++ lineOf (unknownsKey ++ dec unknowns)) (now (card .exit)) r ⌝ }
+    ensures { λ r. ⌜ Laid (now (card .entry)) 0 (headLines (now (name .entry)) equations unknowns) (now (card .exit)) r ⌝ }
 {
     let behind_key = put_all(card, 0, b"rig=");
     let behind_name = put_all(card, behind_key, name);

@@ -7,14 +7,14 @@ use table::LIMIT;
 use table::number::Equation;
 use table::number::Unknown;
 ghost use mathlib.Core.Path.{_≡_};
-ghost use mathlib.Core.Bool.{Bool, true};
+ghost use mathlib.Core.Bool.{true};
 ghost use Prim.Native.Nat.{_≤_};
 ghost use lib.ListN.{length, drop};
 ghost use Rattle.table.specs.Model.{inLimits};
 ghost use Rattle.card.specs.Text.{linesOf};
 ghost use Rattle.card.specs.declared.entry.Entry.the-variants.{Occurs};
 ghost use Rattle.card.specs.Card.{inRange, precedes, turnSaid, turnOf};
-ghost use Rattle.card.specs.Steps.{ListRead};
+ghost use Rattle.card.specs.Steps.{endSaid, ListRead};
 
 // The most codes that a table may have.
 pub const CELLS: usize = LIMIT * LIMIT;
@@ -31,6 +31,9 @@ pub enum Turn {
     Next { pair: Pair, code: u8, next: usize },
     Last { count: usize, next: usize },
 }
+
+// What the end line comes to: a number and a place, 0 and 0 where the card is good.
+pub struct Ending(pub u8, pub usize);
 
 // What the lines come to: number 0 and the table, or a refusal.
 pub struct Listed {
@@ -125,6 +128,19 @@ fn read_turn(card: &[u8], at: usize, equations: usize, unknowns: usize, last: Pa
     }
 }
 
+// The end line at a place, behind so many occurs lines: 16 before bytes behind it.
+fn read_end(card: &[u8], said: usize, count: usize, at: usize, next: usize) -> Ending
+    ensures { λ r. ⌜ r ≡ endSaid (length (now (card .entry))) said count at next ⌝ }
+{
+    if said != count {
+        return Ending(16, at);
+    }
+    if next < card.len() {
+        return Ending(11, next);
+    }
+    Ending(0, 0)
+}
+
 // The occurs lines and the end line, from a place on.
 pub fn read_list(card: &[u8], from: usize, equations: usize, unknowns: usize) -> Listed
     requires { ⌜ (inLimits equations unknowns ≡ true) × (from ≤ length (now card)) ⌝ }
@@ -147,23 +163,10 @@ pub fn read_list(card: &[u8], from: usize, equations: usize, unknowns: usize) ->
                 };
             }
             Turn::Last { count: said, next } => {
-                if said != count {
-                    return Listed {
-                        number: 16,
-                        place: at,
-                        table,
-                    };
-                }
-                if next < card.len() {
-                    return Listed {
-                        number: 11,
-                        place: next,
-                        table,
-                    };
-                }
+                let ending = read_end(card, said, count, at, next);
                 return Listed {
-                    number: 0,
-                    place: 0,
+                    number: ending.0,
+                    place: ending.1,
                     table,
                 };
             }

@@ -1,6 +1,6 @@
 // Bytes laid into a card from a place on. Where there is no room a byte is counted and not written, so that a card is measured by laying it into nothing.
 ghost use mathlib.Core.Path.{_≡_};
-ghost use mathlib.Core.List.{List, [], _∷_, _++_};
+ghost use mathlib.Core.List.{[], _∷_, _++_};
 ghost use Prim.Native.Nat.{_+_, _^_, _<_};
 ghost use lib.ListN.{length};
 ghost use Rattle.card.specs.Text.{comma, digitOf, zerosOf, dec};
@@ -30,7 +30,7 @@ pub fn put_all(card: &mut [u8], at: usize, bytes: &[u8]) -> usize
 }
 
 // The last decimal digit.
-fn digit_of(n: usize) -> u8
+pub fn digit_of(n: usize) -> u8
     ensures { λ r. ⌜ r ≡ digitOf n ⌝ }
 {
     48 + (n % 10) as u8

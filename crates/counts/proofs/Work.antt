@@ -18,7 +18,7 @@ use Rattle.table.specs.Model.{limit, codeAt, occursAt, orderAt, square}
 use Rattle.table.specs.declared.number.Equation.{Equation}
 use Rattle.table.proofs.Model.{square-at}
 use Rattle.pairing.specs.Pairing.{Rel}
-use Rattle.pairing.specs.Holders.{holder, held, Reach, Found, Nothing, Asking}
+use Rattle.pairing.specs.Holders.{holder, held, Reach, Nothing}
 use Rattle.pairing.proofs.Hall.{reach-within}
 use Rattle.counts.specs.Fit.{leading}
 use Rattle.counts.specs.Work.{numberAt, topOrder, highAt, topsOf, leadingAt, leadingRows, Small, Ready, Chosen}

@@ -27,7 +27,9 @@ returns : tie.Need-returns
 returns c = name-faulty (c .before .before .before .read-head .ensures) (c .before .enum-told .given .1) refl
 
 read-list-requires : tie.Need-read-list-requires
-read-list-requires c κs = let l = head-limits (c .before .before .before .read-head .ensures) (c .before .name-end .given .1) in (l .0, l .3)
+read-list-requires c κs =
+    let l = head-limits (c .before .before .before .read-head .ensures) (c .before .name-end .given .1) in
+    (l .0, l .3)
 
 sub-result-2 : tie.Need-sub-result-2
 sub-result-2 c = search needs
@@ -39,19 +41,23 @@ part-result-end-2 : tie.Need-part-result-end-2
 part-result-end-2 c = search needs
 
 returns-2 : tie.Need-returns-2
-returns-2 c = name-refused (c .before .before .before .before .before .before .before .read-head .ensures) (c .before .before .before .before .before .name-end .given .1) (c .before .before .before .read-list .ensures) (c .before .if1 .taken) refl
+returns-2 c = name-refused (c .before .before .before .before .before .before .before .read-head .ensures)
+    (c .before .before .before .before .before .name-end .given .1) (c .before .before .before .read-list .ensures) (c .before .if1 .taken) refl
 
 sub-result-3 : tie.Need-sub-result-3
 sub-result-3 c = head-limits (c .before .before .before .before .before .before .read-head .ensures) (c .before .before .before .before .name-end .given .1) .1
 
 part-result-start-3 : tie.Need-part-result-start-3
-part-result-start-3 c = head-limits (c .before .before .before .before .before .before .read-head .ensures) (c .before .before .before .before .name-end .given .1) .1
+part-result-start-3 c = head-limits (c .before .before .before .before .before .before .read-head .ensures)
+    (c .before .before .before .before .name-end .given .1) .1
 
 part-result-end-3 : tie.Need-part-result-end-3
-part-result-end-3 c = head-limits (c .before .before .before .before .before .before .read-head .ensures) (c .before .before .before .before .name-end .given .1) .2
+part-result-end-3 c = head-limits (c .before .before .before .before .before .before .read-head .ensures)
+    (c .before .before .before .before .name-end .given .1) .2
 
 returns-3 : tie.Need-returns-3
-returns-3 c = name-good (c .before .before .before .before .before .before .before .read-head .ensures) (c .before .before .before .before .before .name-end .given .1) (c .before .before .before .read-list .ensures) (c .before .if1 .left) refl
+returns-3 c = name-good (c .before .before .before .before .before .before .before .read-head .ensures)
+    (c .before .before .before .before .before .name-end .given .1) (c .before .before .before .read-list .ensures) (c .before .if1 .left) refl
 
 pub name-of-spec : {M : Type 1} → statement M
 name-of-spec =

@@ -22,7 +22,9 @@ same-length c = search needs
 
 returns : tie.Need-returns
 returns c = let e = laid-nothing (c .before .before .before .before .put-card .ensures) in
-    rw e (write-18 (c .before .before .before .before .before .before .before .before .before .args .card .now) (c .before .before .before .before .before .before .before .before .before .pre) (c .wrote-none .ensures) (let t = rw e at (c .before .if1 .taken) in omega (arith, t, c .before .before .before .before .put-card .ensures .place)))
+    rw e (write-18 (c .before .before .before .before .before .before .before .before .before .args .card .now)
+    (c .before .before .before .before .before .before .before .before .before .pre) (c .wrote-none .ensures)
+    (let t = rw e at (c .before .if1 .taken) in omega (arith, t, c .before .before .before .before .put-card .ensures .place)))
 
 put-card-requires-2 : tie.Need-put-card-requires-2
 put-card-requires-2 c κs = good-fits (c .before .before .before .before .before .before .before .before .before .pre)
@@ -32,7 +34,11 @@ same-length-2 c = search needs
 
 returns-2 : tie.Need-returns-2
 returns-2 c = let e = laid-nothing (c .before .before .before .before .before .before .before .put-card .ensures) in
-    write-0 (c .before .before .before .before .before .before .before .before .before .before .before .before .args .card .now) (c .before .before .before .before .before .before .before .before .before .before .before .before .pre) (omega (arith, c .before .before .before .before .before .before .before .put-card .ensures .place)) (let t = rw e at (c .before .before .before .before .if1 .left) in omega (arith, t, c .before .before .before .before .before .before .before .put-card .ensures .place))
+    write-0 (c .before .before .before .before .before .before .before .before .before .before .before .before .args .card .now)
+    (c .before .before .before .before .before .before .before .before .before .before .before .before .pre)
+    (omega (arith, c .before .before .before .before .before .before .before .put-card .ensures .place))
+    (let t = rw e at (c .before .before .before .before .if1 .left) in omega
+    (arith, t, c .before .before .before .before .before .before .before .put-card .ensures .place))
     (rw e at (c .before .before .put-card2 .ensures))
 
 pub write-good-spec : {M : Type 1} → statement M

@@ -1,7 +1,5 @@
 -- `print_marked` reads within its marks.
-use mathlib.Core.Path.{_≡_}
 use Prim.Native.Nat.{_-_, _≤_}
-use lib.ListN.{length}
 use borrow.Author.Needs.{needs}
 use Rattle.pairing_run.proofs.print_marked.Statement.{statement}
 use Rattle.pairing_run.proofs.print_marked.Tie as tie

@@ -28,10 +28,14 @@ enum-told : tie.Need-enum-told
 enum-told c = search needs
 
 returns : tie.Need-returns
-returns c = ap ended (sym (sym (c .before .before .line-value .ensures) ∙ c .enum-told .given .1)) ∙ entry-end (c .before .before .before .before .before .before .before .before .args .line .now) (sym (c .before .before .before .before .before .starts .ensures) ∙ c .before .before .before .before .if1 .taken)
+returns c = ap ended (sym (sym (c .before .before .line-value .ensures) ∙ c .enum-told .given .1)) ∙ entry-end
+    (c .before .before .before .before .before .before .before .before .args .line .now)
+    (sym (c .before .before .before .before .before .starts .ensures) ∙ c .before .before .before .before .if1 .taken)
 
 returns-2 : tie.Need-returns-2
-returns-2 c = ap ended (sym (sym (c .before .before .before .line-value .ensures) ∙ c .before .count .given .1)) ∙ entry-end (c .before .before .before .before .before .before .before .before .before .args .line .now) (sym (c .before .before .before .before .before .before .starts .ensures) ∙ c .before .before .before .before .before .if1 .taken)
+returns-2 c = ap ended (sym (sym (c .before .before .before .line-value .ensures) ∙ c .before .count .given .1)) ∙ entry-end
+    (c .before .before .before .before .before .before .before .before .before .args .line .now)
+    (sym (c .before .before .before .before .before .before .starts .ensures) ∙ c .before .before .before .before .before .if1 .taken)
 
 slice-aggregate-starts-2 : tie.Need-slice-aggregate-starts-2
 slice-aggregate-starts-2 c = search needs
@@ -40,13 +44,17 @@ starts-requires-2 : tie.Need-starts-requires-2
 starts-requires-2 c κs = search needs
 
 returns-3 : tie.Need-returns-3
-returns-3 c = entry-shape (c .before .before .before .before .before .before .before .args .line .now) (sym (c .before .before .before .before .starts .ensures) ∙ c .before .before .before .if1 .left) (sym (c .before .starts2 .ensures) ∙ not-true _ (c .if2 .taken))
+returns-3 c = entry-shape (c .before .before .before .before .before .before .before .args .line .now)
+    (sym (c .before .before .before .before .starts .ensures) ∙ c .before .before .before .if1 .left)
+    (sym (c .before .starts2 .ensures) ∙ not-true _ (c .if2 .taken))
 
 sub-triple : tie.Need-sub-triple
-sub-triple c = begins-length occursKey (c .before .before .before .before .before .before .before .args .line .now) (sym (c .before .starts2 .ensures) ∙ not-false _ (c .if2 .left))
+sub-triple c = begins-length occursKey (c .before .before .before .before .before .before .before .args .line .now)
+    (sym (c .before .starts2 .ensures) ∙ not-false _ (c .if2 .left))
 
 part-triple-start : tie.Need-part-triple-start
-part-triple-start c = begins-length occursKey (c .before .before .before .before .before .before .before .args .line .now) (sym (c .before .starts2 .ensures) ∙ not-false _ (c .if2 .left))
+part-triple-start c = begins-length occursKey (c .before .before .before .before .before .before .before .args .line .now)
+    (sym (c .before .starts2 .ensures) ∙ not-false _ (c .if2 .left))
 
 part-triple-end : tie.Need-part-triple-end
 part-triple-end c = search needs
@@ -55,7 +63,10 @@ triple-requires : tie.Need-triple-requires
 triple-requires c κs = search needs
 
 returns-4 : tie.Need-returns-4
-returns-4 c = c .triple .ensures ∙ ap tripleOf (part-to-end (c .before .before .before .before .before .before .before .before .before .args .line .now) 7) ∙ entry-triple (c .before .before .before .before .before .before .before .before .before .args .line .now) (sym (c .before .before .before .before .before .before .starts .ensures) ∙ c .before .before .before .before .before .if1 .left) (sym (c .before .before .before .starts2 .ensures) ∙ not-false _ (c .before .before .if2 .left))
+returns-4 c = c .triple .ensures ∙ ap tripleOf (part-to-end (c .before .before .before .before .before .before .before .before .before .args .line
+    .now) 7) ∙ entry-triple (c .before .before .before .before .before .before .before .before .before .args .line .now)
+    (sym (c .before .before .before .before .before .before .starts .ensures) ∙ c .before .before .before .before .before .if1 .left)
+    (sym (c .before .before .before .starts2 .ensures) ∙ not-false _ (c .before .before .if2 .left))
 
 pub line-entry-spec : {M : Type 1} → statement M
 line-entry-spec =

@@ -13,13 +13,16 @@ starts-requires : tie.Need-starts-requires
 starts-requires c κs = search needs
 
 returns : tie.Need-returns
-returns c = value-not (c .before .before .before .before .args .key .now) (c .before .before .before .before .args .line .now) (sym (c .before .starts .ensures) ∙ not-true _ (c .if1 .taken))
+returns c = value-not (c .before .before .before .before .args .key .now) (c .before .before .before .before .args .line .now)
+    (sym (c .before .starts .ensures) ∙ not-true _ (c .if1 .taken))
 
 sub-whole : tie.Need-sub-whole
-sub-whole c = begins-length (c .before .before .before .before .args .key .now) (c .before .before .before .before .args .line .now) (sym (c .before .starts .ensures) ∙ not-false _ (c .if1 .left))
+sub-whole c = begins-length (c .before .before .before .before .args .key .now) (c .before .before .before .before .args .line .now)
+    (sym (c .before .starts .ensures) ∙ not-false _ (c .if1 .left))
 
 part-whole-start : tie.Need-part-whole-start
-part-whole-start c = begins-length (c .before .before .before .before .args .key .now) (c .before .before .before .before .args .line .now) (sym (c .before .starts .ensures) ∙ not-false _ (c .if1 .left))
+part-whole-start c = begins-length (c .before .before .before .before .args .key .now) (c .before .before .before .before .args .line .now)
+    (sym (c .before .starts .ensures) ∙ not-false _ (c .if1 .left))
 
 part-whole-end : tie.Need-part-whole-end
 part-whole-end c = search needs
@@ -28,8 +31,11 @@ whole-requires : tie.Need-whole-requires
 whole-requires c κs = search needs
 
 returns-2 : tie.Need-returns-2
-returns-2 c = c .whole .ensures ∙ ap wholeOf (part-to-end (c .before .before .before .before .before .before .args .line .now) (length (c .before .before .before .before .before .before .args .key .now)))
-    ∙ value-says (c .before .before .before .before .before .before .args .key .now) (c .before .before .before .before .before .before .args .line .now) (sym (c .before .before .before .starts .ensures) ∙ not-false _ (c .before .before .if1 .left))
+returns-2 c = c .whole .ensures ∙ ap wholeOf (part-to-end (c .before .before .before .before .before .before .args .line .now)
+    (length (c .before .before .before .before .before .before .args .key .now)))
+    ∙ value-says (c .before .before .before .before .before .before .args .key .now)
+    (c .before .before .before .before .before .before .args .line .now)
+    (sym (c .before .before .before .starts .ensures) ∙ not-false _ (c .before .before .if1 .left))
 
 pub line-value-spec : {M : Type 1} → statement M
 line-value-spec =

@@ -22,10 +22,12 @@ returns : tie.Need-returns
 returns c = rw (sym (c .before .before .with-comma .ensures) ∙ c .enum-told .given .1)
 
 sub-second-text : tie.Need-sub-second-text
-sub-second-text c = comma-within (c .before .before .before .before .before .args .text .now) (sym (c .before .before .before .with-comma .ensures) ∙ c .before .equation .given .1)
+sub-second-text c = comma-within (c .before .before .before .before .before .args .text .now)
+    (sym (c .before .before .before .with-comma .ensures) ∙ c .before .equation .given .1)
 
 part-second-text-start : tie.Need-part-second-text-start
-part-second-text-start c = comma-within (c .before .before .before .before .before .args .text .now) (sym (c .before .before .before .with-comma .ensures) ∙ c .before .equation .given .1)
+part-second-text-start c = comma-within (c .before .before .before .before .before .args .text .now)
+    (sym (c .before .before .before .with-comma .ensures) ∙ c .before .equation .given .1)
 
 part-second-text-end : tie.Need-part-second-text-end
 part-second-text-end c = search needs
@@ -40,15 +42,19 @@ enum-told-2 : tie.Need-enum-told-2
 enum-told-2 c = search needs
 
 returns-2 : tie.Need-returns-2
-returns-2 c = let s = c .before .before .before .before .before .before .before .before .before .args .text .now in let a = c .before .before .before .before .before .equation .given .0 .1 .0 in
-    triple-one s (sym (c .before .before .before .before .before .before .before .with-comma .ensures) ∙ c .before .before .before .before .before .equation .given .1) (sym (c .before .before .with-comma2 .ensures ∙ ap commaOf (part-to-end s a)) ∙ c .enum-told2 .given .1)
+returns-2 c = let s = c .before .before .before .before .before .before .before .before .before .args .text .now in
+    let a = c .before .before .before .before .before .equation .given .0 .1 .0 in
+    triple-one s (sym (c .before .before .before .before .before .before .before .with-comma .ensures) ∙ c .before .before .before .before .before
+    .equation .given .1) (sym (c .before .before .with-comma2 .ensures ∙ ap commaOf (part-to-end s a)) ∙ c .enum-told2 .given .1)
 
 sub-whole : tie.Need-sub-whole
-sub-whole c = let s = c .before .before .before .before .before .before .before .before .before .before .args .text .now in let a = c .before .before .before .before .before .before .equation .given .0 .1 .0 in
+sub-whole c = let s = c .before .before .before .before .before .before .before .before .before .before .args .text .now in
+    let a = c .before .before .before .before .before .before .equation .given .0 .1 .0 in
     comma-within (take (length s - a) (drop a s)) (sym (c .before .before .before .with-comma2 .ensures) ∙ c .before .unknown .given .1)
 
 part-whole-start : tie.Need-part-whole-start
-part-whole-start c = let s = c .before .before .before .before .before .before .before .before .before .before .args .text .now in let a = c .before .before .before .before .before .before .equation .given .0 .1 .0 in
+part-whole-start c = let s = c .before .before .before .before .before .before .before .before .before .before .args .text .now in
+    let a = c .before .before .before .before .before .before .equation .given .0 .1 .0 in
     comma-within (take (length s - a) (drop a s)) (sym (c .before .before .before .with-comma2 .ensures) ∙ c .before .unknown .given .1)
 
 part-whole-end : tie.Need-part-whole-end
@@ -64,14 +70,28 @@ enum-told-3 : tie.Need-enum-told-3
 enum-told-3 c = search needs
 
 returns-3 : tie.Need-returns-3
-returns-3 c = let s = c .before .before .before .before .before .before .before .before .before .before .before .before .before .before .args .text .now in let a = c .before .before .before .before .before .before .before .before .before .before .equation .given .0 .1 .0 in let b = c .before .before .before .before .before .unknown .given .0 .1 .0 in
-    triple-two s (sym (c .before .before .before .before .before .before .before .before .before .before .before .before .with-comma .ensures) ∙ c .before .before .before .before .before .before .before .before .before .before .equation .given .1) (sym (c .before .before .before .before .before .before .before .with-comma2 .ensures ∙ ap commaOf (part-to-end s a)) ∙ c .before .before .before .before .before .unknown .given .1)
-    (sym (c .before .before .whole .ensures ∙ ap wholeOf (part-to-end (take (length s - a) (drop a s)) b) ∙ ap (λ x. wholeOf (drop b x)) (part-to-end s a)) ∙ c .enum-told3 .given .1)
+returns-3 c =
+    let s = c .before .before .before .before .before .before .before .before .before .before .before .before .before .before .args .text .now in
+    let a = c .before .before .before .before .before .before .before .before .before .before .equation .given .0 .1 .0 in
+    let b = c .before .before .before .before .before .unknown .given .0 .1 .0 in
+    triple-two s (sym (c .before .before .before .before .before .before .before .before .before .before .before .before .with-comma .ensures) ∙ c
+    .before .before .before .before .before .before .before .before .before .before .equation .given .1)
+    (sym (c .before .before .before .before .before .before .before .with-comma2 .ensures ∙ ap commaOf (part-to-end s a)) ∙ c .before .before
+    .before .before .before .unknown .given .1)
+    (sym (c .before .before .whole .ensures ∙ ap wholeOf (part-to-end (take (length s - a) (drop a s)) b) ∙ ap (λ x. wholeOf (drop b x))
+    (part-to-end s a)) ∙ c .enum-told3 .given .1)
 
 returns-4 : tie.Need-returns-4
-returns-4 c = let s = c .before .before .before .before .before .before .before .before .before .before .before .before .before .before .before .args .text .now in let a = c .before .before .before .before .before .before .before .before .before .before .before .equation .given .0 .1 .0 in let b = c .before .before .before .before .before .before .unknown .given .0 .1 .0 in
-    triple-three s (sym (c .before .before .before .before .before .before .before .before .before .before .before .before .before .with-comma .ensures) ∙ c .before .before .before .before .before .before .before .before .before .before .before .equation .given .1) (sym (c .before .before .before .before .before .before .before .before .with-comma2 .ensures ∙ ap commaOf (part-to-end s a)) ∙ c .before .before .before .before .before .before .unknown .given .1)
-    (sym (c .before .before .before .whole .ensures ∙ ap wholeOf (part-to-end (take (length s - a) (drop a s)) b) ∙ ap (λ x. wholeOf (drop b x)) (part-to-end s a)) ∙ c .before .order .given .1)
+returns-4 c =
+    let s = c .before .before .before .before .before .before .before .before .before .before .before .before .before .before .before .args .text .now in
+    let a = c .before .before .before .before .before .before .before .before .before .before .before .equation .given .0 .1 .0 in
+    let b = c .before .before .before .before .before .before .unknown .given .0 .1 .0 in
+    triple-three s (sym (c .before .before .before .before .before .before .before .before .before .before .before .before .before .with-comma
+    .ensures) ∙ c .before .before .before .before .before .before .before .before .before .before .before .equation .given .1)
+    (sym (c .before .before .before .before .before .before .before .before .with-comma2 .ensures ∙ ap commaOf (part-to-end s a)) ∙ c .before
+    .before .before .before .before .before .unknown .given .1)
+    (sym (c .before .before .before .whole .ensures ∙ ap wholeOf (part-to-end (take (length s - a) (drop a s)) b) ∙ ap (λ x. wholeOf (drop b x))
+    (part-to-end s a)) ∙ c .before .order .given .1)
 
 pub triple-spec : {M : Type 1} → statement M
 triple-spec =

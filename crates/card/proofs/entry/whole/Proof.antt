@@ -18,10 +18,12 @@ returns : tie.Need-returns
 returns c = search needs
 
 returns-2 : tie.Need-returns-2
-returns-2 c = whole-says (c .before .before .before .before .before .before .args .text .now) (sym (c .before .before .before .before .front-number .ensures) ∙ c .before .before .value .given .1) (c .if1 .taken)
+returns-2 c = whole-says (c .before .before .before .before .before .before .args .text .now)
+    (sym (c .before .before .before .before .front-number .ensures) ∙ c .before .before .value .given .1) (c .if1 .taken)
 
 returns-3 : tie.Need-returns-3
-returns-3 c = whole-other (c .before .before .before .before .before .before .args .text .now) (sym (c .before .before .before .before .front-number .ensures) ∙ c .before .before .value .given .1) (c .if1 .left)
+returns-3 c = whole-other (c .before .before .before .before .before .before .args .text .now)
+    (sym (c .before .before .before .before .front-number .ensures) ∙ c .before .before .value .given .1) (c .if1 .left)
 
 pub whole-spec : {M : Type 1} → statement M
 whole-spec =

@@ -22,10 +22,12 @@ returns : tie.Need-returns
 returns c = search needs
 
 sub-starts : tie.Need-sub-starts
-sub-starts c = number-within (c .before .before .before .before .before .args .text .now) (sym (c .before .before .before .front-number .ensures) ∙ c .before .value .given .1)
+sub-starts c = number-within (c .before .before .before .before .before .args .text .now)
+    (sym (c .before .before .before .front-number .ensures) ∙ c .before .value .given .1)
 
 part-starts-start : tie.Need-part-starts-start
-part-starts-start c = number-within (c .before .before .before .before .before .args .text .now) (sym (c .before .before .before .front-number .ensures) ∙ c .before .value .given .1)
+part-starts-start c = number-within (c .before .before .before .before .before .args .text .now)
+    (sym (c .before .before .before .front-number .ensures) ∙ c .before .value .given .1)
 
 part-starts-end : tie.Need-part-starts-end
 part-starts-end c = search needs
@@ -37,13 +39,27 @@ starts-requires : tie.Need-starts-requires
 starts-requires c κs = search needs
 
 add-t14 : tie.Need-add-t14
-add-t14 c = omega (arith, c .before .before .before .before .before .before .before .before .before .good .0, comma-room (c .before .before .before .before .before .before .before .before .before .args .text .now) (sym (c .before .before .before .before .before .before .before .front-number .ensures) ∙ c .before .before .before .before .before .value .given .1) (ap (begins (comma ∷ [])) (sym (part-to-end (c .before .before .before .before .before .before .before .before .before .args .text .now) (c .before .before .before .before .before .value .given .0 .1 .0))) ∙ sym (c .before .starts .ensures) ∙ c .if1 .taken))
+add-t14 c = omega (
+  arith,
+  c .before .before .before .before .before .before .before .before .before .good .0,
+  comma-room
+      (c .before .before .before .before .before .before .before .before .before .args .text .now)
+      (sym (c .before .before .before .before .before .before .before .front-number .ensures) ∙ c .before .before .before .before .before .value
+      .given .1) (ap (begins (comma ∷ [])) (sym (part-to-end (c .before .before .before .before .before .before .before .before .before .args
+      .text .now) (c .before .before .before .before .before .value .given .0 .1 .0))) ∙ sym (c .before .starts .ensures) ∙ c .if1 .taken),
+)
 
 returns-2 : tie.Need-returns-2
-returns-2 c = comma-here (c .before .before .before .before .before .before .before .before .before .args .text .now) (sym (c .before .before .before .before .before .before .before .front-number .ensures) ∙ c .before .before .before .before .before .value .given .1) (ap (begins (comma ∷ [])) (sym (part-to-end (c .before .before .before .before .before .before .before .before .before .args .text .now) (c .before .before .before .before .before .value .given .0 .1 .0))) ∙ sym (c .before .starts .ensures) ∙ c .if1 .taken)
+returns-2 c = comma-here (c .before .before .before .before .before .before .before .before .before .args .text .now)
+    (sym (c .before .before .before .before .before .before .before .front-number .ensures) ∙ c .before .before .before .before .before .value .given
+    .1) (ap (begins (comma ∷ [])) (sym (part-to-end (c .before .before .before .before .before .before .before .before .before .args .text .now)
+    (c .before .before .before .before .before .value .given .0 .1 .0))) ∙ sym (c .before .starts .ensures) ∙ c .if1 .taken)
 
 returns-3 : tie.Need-returns-3
-returns-3 c = comma-not (c .before .before .before .before .before .before .before .before .before .args .text .now) (sym (c .before .before .before .before .before .before .before .front-number .ensures) ∙ c .before .before .before .before .before .value .given .1) (ap (begins (comma ∷ [])) (sym (part-to-end (c .before .before .before .before .before .before .before .before .before .args .text .now) (c .before .before .before .before .before .value .given .0 .1 .0))) ∙ sym (c .before .starts .ensures) ∙ c .if1 .left)
+returns-3 c = comma-not (c .before .before .before .before .before .before .before .before .before .args .text .now)
+    (sym (c .before .before .before .before .before .before .before .front-number .ensures) ∙ c .before .before .before .before .before .value .given
+    .1) (ap (begins (comma ∷ [])) (sym (part-to-end (c .before .before .before .before .before .before .before .before .before .args .text .now)
+    (c .before .before .before .before .before .value .given .0 .1 .0))) ∙ sym (c .before .starts .ensures) ∙ c .if1 .left)
 
 pub with-comma-spec : {M : Type 1} → statement M
 with-comma-spec =

@@ -20,16 +20,25 @@ enum-told : tie.Need-enum-told
 enum-told c = search needs
 
 returns : tie.Need-returns
-returns c = count-none (c .before .before .before .before .before .args .at) (c .before .before .before .before .before .args .key .now) (linesOf (drop (c .before .before .before .before .before .args .at) (c .before .before .before .before .before .args .card .now))) (sym (c .before .before .line-at .ensures) ∙ c .enum-told .given .1)
+returns c = count-none (c .before .before .before .before .before .args .at) (c .before .before .before .before .before .args .key .now)
+    (linesOf (drop (c .before .before .before .before .before .args .at) (c .before .before .before .before .before .args .card .now)))
+    (sym (c .before .before .line-at .ensures) ∙ c .enum-told .given .1)
 
 sub-line-value : tie.Need-sub-line-value
-sub-line-value c = found (c .before .before .before .before .before .before .args .card .now) (c .before .before .before .before .before .before .args .at) (c .before .end .given .0 .0) (sym (c .before .before .before .line-at .ensures) ∙ c .before .end .given .1) .from
+sub-line-value c = found (c .before .before .before .before .before .before .args .card .now)
+    (c .before .before .before .before .before .before .args .at) (c .before .end .given .0 .0)
+    (sym (c .before .before .before .line-at .ensures) ∙ c .before .end .given .1) .from
 
 part-line-value-start : tie.Need-part-line-value-start
-part-line-value-start c = found (c .before .before .before .before .before .before .args .card .now) (c .before .before .before .before .before .before .args .at) (c .before .end .given .0 .0) (sym (c .before .before .before .line-at .ensures) ∙ c .before .end .given .1) .from
+part-line-value-start c = found (c .before .before .before .before .before .before .args .card .now)
+    (c .before .before .before .before .before .before .args .at) (c .before .end .given .0 .0)
+    (sym (c .before .before .before .line-at .ensures) ∙ c .before .end .given .1) .from
 
 part-line-value-end : tie.Need-part-line-value-end
-part-line-value-end c = let k = found (c .before .before .before .before .before .before .args .card .now) (c .before .before .before .before .before .before .args .at) (c .before .end .given .0 .0) (sym (c .before .before .before .line-at .ensures) ∙ c .before .end .given .1) in omega (arith, k .room)
+part-line-value-end c =
+    let k = found (c .before .before .before .before .before .before .args .card .now) (c .before .before .before .before .before .before .args .at)
+    (c .before .end .given .0 .0) (sym (c .before .before .before .line-at .ensures) ∙ c .before .end .given .1) in
+    omega (arith, k .room)
 
 line-value-requires : tie.Need-line-value-requires
 line-value-requires c κs = search needs
@@ -41,24 +50,53 @@ enum-told-2 : tie.Need-enum-told-2
 enum-told-2 c = search needs
 
 returns-2 : tie.Need-returns-2
-returns-2 c = let k = found (c .before .before .before .before .before .before .before .before .before .before .args .card .now) (c .before .before .before .before .before .before .before .before .before .before .args .at) (c .before .before .before .before .before .end .given .0 .0) (sym (c .before .before .before .before .before .before .before .line-at .ensures) ∙ c .before .before .before .before .before .end .given .1) in
-    ap (countSaid (c .before .before .before .before .before .end .given .0 .0 + 1)) (sym (c .enum-told2 .given .1) ∙ c .before .before .line-value .ensures) ∙ count-found k (c .before .before .before .before .before .before .before .before .before .before .args .key .now)
+returns-2 c =
+    let k = found (c .before .before .before .before .before .before .before .before .before .before .args .card .now)
+    (c .before .before .before .before .before .before .before .before .before .before .args .at)
+    (c .before .before .before .before .before .end .given .0 .0)
+    (sym (c .before .before .before .before .before .before .before .line-at .ensures) ∙ c .before .before .before .before .before
+    .end .given .1) in
+    ap (countSaid (c .before .before .before .before .before .end .given .0 .0 + 1))
+    (sym (c .enum-told2 .given .1) ∙ c .before .before .line-value .ensures) ∙ count-found k
+    (c .before .before .before .before .before .before .before .before .before .before .args .key .now)
 
 counted-requires : tie.Need-counted-requires
 counted-requires c κs = search needs
 
 add-t14 : tie.Need-add-t14
-add-t14 c = let k = found (c .before .before .before .before .before .before .before .before .before .before .before .before .before .args .card .now) (c .before .before .before .before .before .before .before .before .before .before .before .before .before .args .at) (c .before .before .before .before .before .before .before .before .end .given .0 .0) (sym (c .before .before .before .before .before .before .before .before .before .before .line-at .ensures) ∙ c .before .before .before .before .before .before .before .before .end .given .1) in omega (arith, k .room, c .before .before .before .before .before .before .before .before .before .before .before .before .before .good .0)
+add-t14 c =
+    let k = found (c .before .before .before .before .before .before .before .before .before .before .before .before .before .args .card .now)
+    (c .before .before .before .before .before .before .before .before .before .before .before .before .before .args .at)
+    (c .before .before .before .before .before .before .before .before .end .given .0 .0)
+    (sym (c .before .before .before .before .before .before .before .before .before .before .line-at .ensures) ∙ c .before .before
+    .before .before .before .before .before .before .end .given .1) in
+    omega (arith, k .room, c .before .before .before .before .before .before .before .before .before .before .before .before .before .good .0)
 
 returns-3 : tie.Need-returns-3
-returns-3 c = let k = found (c .before .before .before .before .before .before .before .before .before .before .before .before .before .args .card .now) (c .before .before .before .before .before .before .before .before .before .before .before .before .before .args .at) (c .before .before .before .before .before .before .before .before .end .given .0 .0) (sym (c .before .before .before .before .before .before .before .before .before .before .line-at .ensures) ∙ c .before .before .before .before .before .before .before .before .end .given .1) in
-    said-in (c .before .before .before .before .before .before .before .before .end .given .0 .0 + 1) (c .before .before .before .number .given .0 .0) (sym (c .before .counted .ensures) ∙ c .if1 .taken)
-    ∙ ap (countSaid (c .before .before .before .before .before .before .before .before .end .given .0 .0 + 1)) (sym (c .before .before .before .number .given .1) ∙ c .before .before .before .before .before .line-value .ensures) ∙ count-found k (c .before .before .before .before .before .before .before .before .before .before .before .before .before .args .key .now)
+returns-3 c =
+    let k = found (c .before .before .before .before .before .before .before .before .before .before .before .before .before .args .card .now)
+    (c .before .before .before .before .before .before .before .before .before .before .before .before .before .args .at)
+    (c .before .before .before .before .before .before .before .before .end .given .0 .0)
+    (sym (c .before .before .before .before .before .before .before .before .before .before .line-at .ensures) ∙ c .before .before
+    .before .before .before .before .before .before .end .given .1) in
+    said-in (c .before .before .before .before .before .before .before .before .end .given .0 .0 + 1)
+    (c .before .before .before .number .given .0 .0) (sym (c .before .counted .ensures) ∙ c .if1 .taken)
+    ∙ ap (countSaid (c .before .before .before .before .before .before .before .before .end .given .0 .0 + 1))
+    (sym (c .before .before .before .number .given .1) ∙ c .before .before .before .before .before .line-value .ensures) ∙ count-found k
+    (c .before .before .before .before .before .before .before .before .before .before .before .before .before .args .key .now)
 
 returns-4 : tie.Need-returns-4
-returns-4 c = let k = found (c .before .before .before .before .before .before .before .before .before .before .before .before .before .args .card .now) (c .before .before .before .before .before .before .before .before .before .before .before .before .before .args .at) (c .before .before .before .before .before .before .before .before .end .given .0 .0) (sym (c .before .before .before .before .before .before .before .before .before .before .line-at .ensures) ∙ c .before .before .before .before .before .before .before .before .end .given .1) in
-    said-out (c .before .before .before .before .before .before .before .before .end .given .0 .0 + 1) (c .before .before .before .number .given .0 .0) (sym (c .before .counted .ensures) ∙ c .if1 .left)
-    ∙ ap (countSaid (c .before .before .before .before .before .before .before .before .end .given .0 .0 + 1)) (sym (c .before .before .before .number .given .1) ∙ c .before .before .before .before .before .line-value .ensures) ∙ count-found k (c .before .before .before .before .before .before .before .before .before .before .before .before .before .args .key .now)
+returns-4 c =
+    let k = found (c .before .before .before .before .before .before .before .before .before .before .before .before .before .args .card .now)
+    (c .before .before .before .before .before .before .before .before .before .before .before .before .before .args .at)
+    (c .before .before .before .before .before .before .before .before .end .given .0 .0)
+    (sym (c .before .before .before .before .before .before .before .before .before .before .line-at .ensures) ∙ c .before .before
+    .before .before .before .before .before .before .end .given .1) in
+    said-out (c .before .before .before .before .before .before .before .before .end .given .0 .0 + 1)
+    (c .before .before .before .number .given .0 .0) (sym (c .before .counted .ensures) ∙ c .if1 .left)
+    ∙ ap (countSaid (c .before .before .before .before .before .before .before .before .end .given .0 .0 + 1))
+    (sym (c .before .before .before .number .given .1) ∙ c .before .before .before .before .before .line-value .ensures) ∙ count-found k
+    (c .before .before .before .before .before .before .before .before .before .before .before .before .before .args .key .now)
 
 pub read-count-spec : {M : Type 1} → statement M
 read-count-spec =

@@ -38,23 +38,41 @@ enum-known-unknowns : tie.Need-enum-known-unknowns
 enum-known-unknowns c = search needs
 
 returns : tie.Need-returns
-returns c = let s = c .before .before .before .before .before .before .args .card .now in let e = c .before .before .before .before .before .before .args .end in
-    record { same = counts-one s (drop (length rigKey) (take e s)) (e + 1) (sym (c .before .before .before .read-count .ensures) ∙ c .before .number .given .1); fits = tt }
+returns c = let s = c .before .before .before .before .before .before .args .card .now in
+    let e = c .before .before .before .before .before .before .args .end in
+    record {
+      same = counts-one s (drop (length rigKey) (take e s)) (e + 1)
+          (sym (c .before .before .before .read-count .ensures) ∙ c .before .number .given .1);
+      fits = tt;
+    }
 
 returns-2 : tie.Need-returns-2
-returns-2 c = let s = c .before .before .before .before .before .before .before .before .before .before .before .args .card .now in let e = c .before .before .before .before .before .before .before .before .before .before .before .args .end in
+returns-2 c = let s = c .before .before .before .before .before .before .before .before .before .before .before .args .card .now in
+    let e = c .before .before .before .before .before .before .before .before .before .before .before .args .end in
     record {
-      same = counts-two s (drop (length rigKey) (take e s)) (e + 1) (sym (c .before .before .before .before .before .before .before .before .read-count .ensures) ∙ c .before .before .before .before .before .before .equations .given .1) (sym (c .before .before .before .read-count2 .ensures) ∙ c .before .number2 .given .1);
+      same = counts-two s (drop (length rigKey) (take e s)) (e + 1)
+          (sym (c .before .before .before .before .before .before .before .before .read-count .ensures) ∙ c .before .before .before .before .before
+          .before .equations .given .1) (sym (c .before .before .before .read-count2 .ensures) ∙ c .before .number2 .given .1);
       fits = tt;
     }
 
 returns-3 : tie.Need-returns-3
-returns-3 c = let s = c .before .before .before .before .before .before .before .before .before .before .before .args .card .now in let e = c .before .before .before .before .before .before .before .before .before .before .before .args .end in
-    let k = countable s equationsKey (e + 1) _ _ (sym (c .before .before .before .before .before .before .before .before .read-count .ensures) ∙ c .before .before .before .before .before .before .equations .given .1) in
-    let l = countable s unknownsKey (c .before .before .before .before .before .before .equations .given .0 .1 .0) _ _ (sym (c .before .before .before .read-count2 .ensures) ∙ c .before .unknowns .given .1) in
+returns-3 c = let s = c .before .before .before .before .before .before .before .before .before .before .before .args .card .now in
+    let e = c .before .before .before .before .before .before .before .before .before .before .before .args .end in
+    let k = countable s equationsKey (e + 1) _ _ (sym (c .before .before .before .before .before .before .before .before .read-count .ensures) ∙ c
+    .before .before .before .before .before .before .equations .given .1) in
+    let l = countable s unknownsKey (c .before .before .before .before .before .before .equations .given .0 .1 .0) _ _
+    (sym (c .before .before .before .read-count2 .ensures) ∙ c .before .unknowns .given .1) in
     record {
-      same = counts-three s (drop (length rigKey) (take e s)) (e + 1) (sym (c .before .before .before .before .before .before .before .before .read-count .ensures) ∙ c .before .before .before .before .before .before .equations .given .1) (sym (c .before .before .before .read-count2 .ensures) ∙ c .before .unknowns .given .1);
-      fits = (and-both (k .counted) (l .counted), c .before .before .before .before .before .before .before .before .before .before .before .pre .0, omega (arith, c .before .before .before .before .before .before .before .before .before .before .before .pre .1), l .room);
+      same = counts-three s (drop (length rigKey) (take e s)) (e + 1)
+          (sym (c .before .before .before .before .before .before .before .before .read-count .ensures) ∙ c .before .before .before .before .before
+          .before .equations .given .1) (sym (c .before .before .before .read-count2 .ensures) ∙ c .before .unknowns .given .1);
+      fits = (
+        and-both (k .counted) (l .counted),
+        c .before .before .before .before .before .before .before .before .before .before .before .pre .0,
+        omega (arith, c .before .before .before .before .before .before .before .before .before .before .before .pre .1),
+        l .room,
+      );
     }
 
 pub read-counts-spec : {M : Type 1} → statement M

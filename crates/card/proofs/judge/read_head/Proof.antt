@@ -15,13 +15,25 @@ enum-known-end : tie.Need-enum-known-end
 enum-known-end c = search needs
 
 read-counts-requires : tie.Need-read-counts-requires
-read-counts-requires c κs = let k = rigged (c .before .before .before .before .before .args .card .now) (c .before .end .given .0 .0) (sym (c .before .before .before .read-rig .ensures) ∙ c .before .end .given .1) in (k .key, k .room)
+read-counts-requires c κs =
+    let k = rigged (c .before .before .before .before .before .args .card .now) (c .before .end .given .0 .0)
+    (sym (c .before .before .before .read-rig .ensures) ∙ c .before .end .given .1) in
+    (k .key, k .room)
 
 returns : tie.Need-returns
-returns c = record { same = rig-off (c .before .before .before .before .before .args .card .now) (sym (c .before .before .before .read-rig .ensures) ∙ c .before .number .given .1); fits = tt }
+returns c = record {
+  same = rig-off (c .before .before .before .before .before .args .card .now)
+      (sym (c .before .before .before .read-rig .ensures) ∙ c .before .number .given .1);
+  fits = tt;
+}
 
 returns-2 : tie.Need-returns-2
-returns-2 c = record { same = rig-on (c .before .before .before .before .before .before .args .card .now) (sym (c .before .before .before .before .read-rig .ensures) ∙ c .before .before .end .given .1) ∙ c .read-counts .ensures .same; fits = c .read-counts .ensures .fits }
+returns-2 c = record {
+  same = rig-on (c .before .before .before .before .before .before .args .card .now)
+      (sym (c .before .before .before .before .read-rig .ensures) ∙ c .before .before .end .given .1) ∙ c .read-counts .ensures .same;
+  fits = c
+      .read-counts .ensures .fits;
+}
 
 pub read-head-spec : {M : Type 1} → statement M
 read-head-spec =

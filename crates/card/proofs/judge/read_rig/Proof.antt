@@ -26,7 +26,9 @@ returns : tie.Need-returns
 returns c = rig-none 0 (linesOf (c .before .before .before .before .args .card .now)) (sym (c .before .before .line-at .ensures) ∙ c .enum-told .given .1)
 
 slice-aggregate-line : tie.Need-slice-aggregate-line
-slice-aggregate-line c = let k = found (c .before .before .before .before .before .before .args .card .now) 0 (c .before .before .end .given .0 .0) (sym (c .before .before .before .before .line-at .ensures) ∙ c .before .before .end .given .1) in
+slice-aggregate-line c =
+    let k = found (c .before .before .before .before .before .before .args .card .now) 0 (c .before .before .end .given .0 .0)
+    (sym (c .before .before .before .before .line-at .ensures) ∙ c .before .before .end .given .1) in
     sym (length-take-le (c .before .before .end .given .0 .0) (c .before .before .before .before .before .before .args .card .now) (omega (arith, k .room)))
 
 slice-aggregate-starts : tie.Need-slice-aggregate-starts
@@ -36,14 +38,23 @@ starts-requires : tie.Need-starts-requires
 starts-requires c κs = search needs
 
 returns-2 : tie.Need-returns-2
-returns-2 c = let k = found (c .before .before .before .before .before .before .before .before .before .args .card .now) 0 (c .before .before .before .before .before .end .given .0 .0) (sym (c .before .before .before .before .before .before .before .line-at .ensures) ∙ c .before .before .before .before .before .end .given .1) in
-    rig-shape (c .before .before .before .before .before .before .before .before .before .args .card .now) k (sym (c .before .starts .ensures) ∙ not-true _ (c .if1 .taken))
+returns-2 c =
+    let k = found (c .before .before .before .before .before .before .before .before .before .args .card .now) 0
+    (c .before .before .before .before .before .end .given .0 .0)
+    (sym (c .before .before .before .before .before .before .before .line-at .ensures) ∙ c .before .before .before .before .before .end
+    .given .1) in
+    rig-shape (c .before .before .before .before .before .before .before .before .before .args .card .now) k
+    (sym (c .before .starts .ensures) ∙ not-true _ (c .if1 .taken))
 
 sub-good-name : tie.Need-sub-good-name
-sub-good-name c = begins-length rigKey (take (c .before .before .before .before .before .end .given .0 .0) (c .before .before .before .before .before .before .before .before .before .args .card .now)) (sym (c .before .starts .ensures) ∙ not-false _ (c .if1 .left))
+sub-good-name c = begins-length rigKey (take (c .before .before .before .before .before .end .given .0 .0)
+    (c .before .before .before .before .before .before .before .before .before .args .card .now))
+    (sym (c .before .starts .ensures) ∙ not-false _ (c .if1 .left))
 
 part-good-name-start : tie.Need-part-good-name-start
-part-good-name-start c = begins-length rigKey (take (c .before .before .before .before .before .end .given .0 .0) (c .before .before .before .before .before .before .before .before .before .args .card .now)) (sym (c .before .starts .ensures) ∙ not-false _ (c .if1 .left))
+part-good-name-start c = begins-length rigKey (take (c .before .before .before .before .before .end .given .0 .0)
+    (c .before .before .before .before .before .before .before .before .before .args .card .now))
+    (sym (c .before .starts .ensures) ∙ not-false _ (c .if1 .left))
 
 part-good-name-end : tie.Need-part-good-name-end
 part-good-name-end c = search needs
@@ -52,13 +63,19 @@ good-name-requires : tie.Need-good-name-requires
 good-name-requires c κs = search needs
 
 returns-3 : tie.Need-returns-3
-returns-3 c = let s = c .before .before .before .before .before .before .before .before .before .before .before .before .args .card .now in let e = c .before .before .before .before .before .before .before .before .end .given .0 .0 in
-    rig-good s (found s 0 e (sym (c .before .before .before .before .before .before .before .before .before .before .line-at .ensures) ∙ c .before .before .before .before .before .before .before .before .end .given .1)) (sym (c .before .before .before .before .starts .ensures) ∙ not-false _ (c .before .before .before .if1 .left))
+returns-3 c = let s = c .before .before .before .before .before .before .before .before .before .before .before .before .args .card .now in
+    let e = c .before .before .before .before .before .before .before .before .end .given .0 .0 in
+    rig-good s (found s 0 e (sym (c .before .before .before .before .before .before .before .before .before .before .line-at .ensures) ∙ c .before
+    .before .before .before .before .before .before .before .end .given .1))
+    (sym (c .before .before .before .before .starts .ensures) ∙ not-false _ (c .before .before .before .if1 .left))
     (sym (c .before .good-name .ensures ∙ ap goodName (part-to-end (take e s) 4)) ∙ c .if2 .taken)
 
 returns-4 : tie.Need-returns-4
-returns-4 c = let s = c .before .before .before .before .before .before .before .before .before .before .before .before .args .card .now in let e = c .before .before .before .before .before .before .before .before .end .given .0 .0 in
-    rig-bad s (found s 0 e (sym (c .before .before .before .before .before .before .before .before .before .before .line-at .ensures) ∙ c .before .before .before .before .before .before .before .before .end .given .1)) (sym (c .before .before .before .before .starts .ensures) ∙ not-false _ (c .before .before .before .if1 .left))
+returns-4 c = let s = c .before .before .before .before .before .before .before .before .before .before .before .before .args .card .now in
+    let e = c .before .before .before .before .before .before .before .before .end .given .0 .0 in
+    rig-bad s (found s 0 e (sym (c .before .before .before .before .before .before .before .before .before .before .line-at .ensures) ∙ c .before
+    .before .before .before .before .before .before .before .end .given .1))
+    (sym (c .before .before .before .before .starts .ensures) ∙ not-false _ (c .before .before .before .if1 .left))
     (sym (c .before .good-name .ensures ∙ ap goodName (part-to-end (take e s) 4)) ∙ c .if2 .left)
 
 pub read-rig-spec : {M : Type 1} → statement M

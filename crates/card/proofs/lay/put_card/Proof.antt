@@ -14,7 +14,13 @@ put-head-requires : tie.Need-put-head-requires
 put-head-requires c κs = search needs
 
 put-cells-requires : tie.Need-put-cells-requires
-put-cells-requires c κs = let p = c .before .before .before .before .before .before .before .before .pre in let a = c .before .before .before .before .before .before .before .before .args in (omega (arith, c .before .before .before .put-head .ensures .place, head-short (a .name .now) (a .equations) (a .unknowns) (p .0)), p .1, p .2, p .3)
+put-cells-requires c κs = let p = c .before .before .before .before .before .before .before .before .pre in
+    let a = c .before .before .before .before .before .before .before .before .args in (
+      omega (arith, c .before .before .before .put-head .ensures .place, head-short (a .name .now) (a .equations) (a .unknowns) (p .0)),
+      p .1,
+      p .2,
+      p .3,
+    )
 
 count-codes-requires : tie.Need-count-codes-requires
 count-codes-requires c κs = search needs
@@ -23,17 +29,32 @@ slice-aggregate-put-line : tie.Need-slice-aggregate-put-line
 slice-aggregate-put-line c = search needs
 
 put-line-requires : tie.Need-put-line-requires
-put-line-requires c κs = let p = c .before .before .before .before .before .before .before .before .before .before .before .before .before .before .pre in let a = c .before .before .before .before .before .before .before .before .before .before .before .before .before .before .args in
-    omega (arith, c .before .before .before .before .before .put-cells .ensures .place, c .before .before .before .before .before .before .before .before .before .put-head .ensures .place, head-short (a .name .now) (a .equations) (a .unknowns) (p .0), lines-short (a .unknowns) 0 (a .table .now), p .2, p .3)
+put-line-requires c κs =
+    let p = c .before .before .before .before .before .before .before .before .before .before .before .before .before .before .pre in
+    let a = c .before .before .before .before .before .before .before .before .before .before .before .before .before .before .args in
+    omega (
+      arith,
+      c .before .before .before .before .before .put-cells .ensures .place,
+      c .before .before .before .before .before .before .before
+          .before .before .put-head .ensures .place,
+      head-short (a .name .now) (a .equations) (a .unknowns) (p .0),
+      lines-short (a .unknowns) 0
+          (a .table .now),
+      p .2,
+      p .3,
+    )
 
 same-length : tie.Need-same-length
 same-length c = search needs
 
 returns : tie.Need-returns
-returns c = let a = c .before .before .before .before .before .before .before .before .before .before .before .before .before .before .before .before .before .args in
-    laid-same (ap (λ n. lineOf (rigKey ++ a .name .now) ++ lineOf (equationsKey ++ dec (a .equations)) ++ lineOf (unknownsKey ++ dec (a .unknowns)) ++ occursLines (a .unknowns) 0 (a .table .now) ++ lineOf (endKey ++ dec n)) (c .before .before .before .before .before .count-codes .ensures)
+returns c =
+    let a = c .before .before .before .before .before .before .before .before .before .before .before .before .before .before .before .before .before .args in
+    laid-same (ap (λ n. lineOf (rigKey ++ a .name .now) ++ lineOf (equationsKey ++ dec (a .equations)) ++ lineOf (unknownsKey ++ dec (a .unknowns))
+    ++ occursLines (a .unknowns) 0 (a .table .now) ++ lineOf (endKey ++ dec n)) (c .before .before .before .before .before .count-codes .ensures)
     ∙ card-parts (a .name .now) (a .equations) (a .unknowns) (a .table .now))
-    (laid-then (laid-then (c .before .before .before .before .before .before .before .before .before .before .before .before .put-head .ensures) (c .before .before .before .before .before .before .before .before .put-cells .ensures)) (c .before .before .put-line .ensures))
+    (laid-then (laid-then (c .before .before .before .before .before .before .before .before .before .before .before .before .put-head .ensures)
+    (c .before .before .before .before .before .before .before .before .put-cells .ensures)) (c .before .before .put-line .ensures))
 
 pub put-card-spec : {M : Type 1} → statement M
 put-card-spec =

@@ -8,7 +8,8 @@ use Rattle.card.proofs.lay.put_cell.Statement.{statement}
 use Rattle.card.proofs.lay.put_cell.Tie as tie
 
 returns : tie.Need-returns
-returns c = cell-none (c .before .before .args .card .now) (c .before .before .args .at) (c .before .before .args .unknowns) (c .before .before .args .cell) (c .before .before .args .code) (c .if1 .taken)
+returns c = cell-none (c .before .before .args .card .now) (c .before .before .args .at) (c .before .before .args .unknowns)
+    (c .before .before .args .cell) (c .before .before .args .code) (c .if1 .taken)
 
 div-at : tie.Need-div-at
 div-at c = search needs
@@ -20,7 +21,9 @@ rem-at : tie.Need-rem-at
 rem-at c = search needs
 
 at-requires-2 : tie.Need-at-requires-2
-at-requires-2 c κs = let h = mod-lt (c .before .before .before .args .cell) {m = c .before .before .before .args .unknowns} (omega (arith, c .before .before .before .pre .1)) in omega (arith, c .before .before .before .pre .2)
+at-requires-2 c κs =
+    let h = mod-lt (c .before .before .before .args .cell) {m = c .before .before .before .args .unknowns} (omega (arith, c .before .before .before .pre .1)) in
+    omega (arith, c .before .before .before .pre .2)
 
 sub-put-occurs : tie.Need-sub-put-occurs
 sub-put-occurs c = search needs
@@ -35,7 +38,11 @@ same-length : tie.Need-same-length
 same-length c = search needs
 
 returns-2 : tie.Need-returns-2
-returns-2 c = laid-same (cell-line (c .before .before .before .before .before .before .before .before .args .unknowns) (c .before .before .before .before .before .before .before .before .args .cell) (c .before .before .before .before .before .before .before .before .args .code) _ _ _ (c .before .before .before .before .before .before .if1 .left) (c .before .before .before .before .before .at .ensures) (c .before .before .before .before .at2 .ensures) refl) (c .before .before .put-occurs .ensures)
+returns-2 c = laid-same (cell-line (c .before .before .before .before .before .before .before .before .args .unknowns)
+    (c .before .before .before .before .before .before .before .before .args .cell)
+    (c .before .before .before .before .before .before .before .before .args .code) _ _ _
+    (c .before .before .before .before .before .before .if1 .left) (c .before .before .before .before .before .at .ensures)
+    (c .before .before .before .before .at2 .ensures) refl) (c .before .before .put-occurs .ensures)
 
 pub put-cell-spec : {M : Type 1} → statement M
 put-cell-spec =

@@ -14,13 +14,15 @@ abbrev μ-loop : tie.MeasureT-loop
 μ-loop card₀ at unknowns table next₀ cell₀ card next cell = length table - cell
 
 loop-holds : tie.Need-loop-holds Inv-loop μ-loop
-loop-holds c = celling-start (c .before .before .args .card .now) (c .before .before .args .at) (c .before .before .args .unknowns) (c .before .before .args .table .now)
+loop-holds c = celling-start (c .before .before .args .card .now) (c .before .before .args .at) (c .before .before .args .unknowns)
+    (c .before .before .args .table .now)
 
 shared-slice-read-put-cell : tie.Need-shared-slice-read-put-cell Inv-loop μ-loop
 shared-slice-read-put-cell c = omega arith
 
 put-cell-requires : tie.Need-put-cell-requires Inv-loop μ-loop
-put-cell-requires c κs = let p = c .before .before .before .before .before .before .pre in let k = c .before .before .before .loop .inv in (omega (arith, p .0, p .2, p .3, k .near), p .1, p .2, omega (arith, p .3))
+put-cell-requires c κs = let p = c .before .before .before .before .before .before .pre in let k = c .before .before .before .loop .inv in
+    (omega (arith, p .0, p .2, p .3, k .near), p .1, p .2, omega (arith, p .3))
 
 add-cell : tie.Need-add-cell Inv-loop μ-loop
 add-cell c = omega arith

@@ -34,16 +34,23 @@ put-line-requires-2 c κs = omega (
   c .before .before .before .before .put-line .ensures .place,
   c .before .before .before .before .before .before .before .before .before .put .ensures .place,
   c .before .before .before .before .before .before .before .before .before .before .before .before .before .put-all2 .ensures .place,
-  c .before .before .before .before .before .before .before .before .before .before .before .before .before .before .before .before .before .put-all .ensures .place,
-  c .before .before .before .before .before .before .before .before .before .before .before .before .before .before .before .before .before .before .before .before .before .before .pre,
-  key-line-short equationsKey (c .before .before .before .before .before .before .before .before .before .before .before .before .before .before .before .before .before .before .before .before .before .before .args .equations),
+  c .before .before .before .before .before .before .before .before .before .before .before .before .before .before .before .before .before .put-all
+      .ensures .place,
+  c .before .before .before .before .before .before .before .before .before .before .before .before .before .before .before .before .before .before
+      .before .before .before .before .pre,
+  key-line-short equationsKey (c .before .before .before .before .before .before .before .before .before .before .before .before .before .before
+      .before .before .before .before .before .before .before .before .args .equations),
 )
 
 same-length : tie.Need-same-length
 same-length c = search needs
 
 returns : tie.Need-returns
-returns c = laid-then (laid-then (laid-then (laid-then (c .before .before .before .before .before .before .before .before .before .before .before .before .before .before .before .before .before .before .before .before .put-all .ensures) (c .before .before .before .before .before .before .before .before .before .before .before .before .before .before .before .before .put-all2 .ensures)) (c .before .before .before .before .before .before .before .before .before .before .before .before .put .ensures)) (c .before .before .before .before .before .before .before .put-line .ensures)) (c .before .before .put-line2 .ensures)
+returns c = laid-then (laid-then (laid-then (laid-then (c .before .before .before .before .before .before .before .before .before .before .before
+    .before .before .before .before .before .before .before .before .before .put-all .ensures)
+    (c .before .before .before .before .before .before .before .before .before .before .before .before .before .before .before .before .put-all2
+    .ensures)) (c .before .before .before .before .before .before .before .before .before .before .before .before .put .ensures))
+    (c .before .before .before .before .before .before .before .put-line .ensures)) (c .before .before .put-line2 .ensures)
 
 pub put-head-spec : {M : Type 1} → statement M
 put-head-spec =

@@ -4,7 +4,8 @@ use Prim.Native.Nat.{_-_}
 use native.Mathlib.Omega.{arith}
 use borrow.Author.Needs.{needs}
 use lib.ListN.{length}
-use Rattle.card.proofs.ListLaws.{Listing, listing-start, listing-next, listing-refused, listing-wrong, listing-more, listing-end, turn-next, Taking, Onward, place-fits, cell-fits}
+use Rattle.card.proofs.ListLaws.{Listing, listing-start, listing-next, listing-refused, listing-ended, turn-next}
+use Rattle.card.proofs.ListLaws.{Taking, Onward, place-fits, cell-fits}
 use Rattle.card.proofs.list.read_list.Statement.{statement}
 use Rattle.card.proofs.list.read_list.Tie as tie
 
@@ -15,7 +16,8 @@ abbrev μ-loop : tie.MeasureT-loop
 μ-loop card from equations unknowns table₀ last₀ count₀ at₀ table last count at = length card - at
 
 loop-holds : tie.Need-loop-holds Inv-loop μ-loop
-loop-holds c = listing-start (c .before .args .card .now) (c .before .args .equations) (c .before .args .unknowns) (c .before .args .from) (c .before .pre .0) (c .before .pre .1)
+loop-holds c = listing-start (c .before .args .card .now) (c .before .args .equations) (c .before .args .unknowns) (c .before .args .from)
+    (c .before .pre .0) (c .before .pre .1)
 
 read-turn-requires : tie.Need-read-turn-requires Inv-loop μ-loop
 read-turn-requires c κs = c .before .before .pre .0
@@ -29,50 +31,77 @@ returns c = listing-refused (c .before .before .before .before .loop .inv) (sym 
 enum-known-said : tie.Need-enum-known-said Inv-loop μ-loop
 enum-known-said c = search needs
 
+read-end-requires : tie.Need-read-end-requires Inv-loop μ-loop
+read-end-requires c κs = search needs
+
 returns-2 : tie.Need-returns-2 Inv-loop μ-loop
-returns-2 c = listing-wrong (c .before .before .before .before .before .loop .inv) (sym (c .before .before .before .before .read-turn .ensures) ∙ c .before .before .said .given .1) (c .if1 .taken)
-
-returns-3 : tie.Need-returns-3 Inv-loop μ-loop
-returns-3 c = listing-more (c .before .before .before .before .before .before .loop .inv) (sym (c .before .before .before .before .before .read-turn .ensures) ∙ c .before .before .before .said .given .1) (c .before .if1 .left) (c .if2 .taken)
-
-returns-4 : tie.Need-returns-4 Inv-loop μ-loop
-returns-4 c = listing-end (c .before .before .before .before .before .before .loop .inv) (sym (c .before .before .before .before .before .read-turn .ensures) ∙ c .before .before .before .said .given .1) (c .before .if1 .left) (c .if2 .left)
+returns-2 c =
+    listing-ended (c .before .before .before .before .before .loop .inv)
+    (sym (c .before .before .before .before .read-turn .ensures) ∙ c .before .before .said .given .1) (c .read-end .ensures)
 
 enum-known-pair : tie.Need-enum-known-pair Inv-loop μ-loop
 enum-known-pair c = search needs
 
 -- the line that was taken
 took : (c : tie.After-unknown Inv-loop μ-loop)
-    → Taking (c .before .before .before .before .before .before .before .before .args .equations) (c .before .before .before .before .before .before .before .before .args .unknowns) (c .before .before .before .before .before .before .loop .last .equation .0) (c .before .before .before .before .before .before .loop .last .unknown .0)
+    → Taking (c .before .before .before .before .before .before .before .before .args .equations)
+    (c .before .before .before .before .before .before .before .before .args .unknowns)
+    (c .before .before .before .before .before .before .loop .last .equation .0)
+    (c .before .before .before .before .before .before .loop .last .unknown .0)
     (c .before .before .before .pair .given .0 .0) (c .before .before .before .pair .given .0 .1 .0)
-    × Onward (c .before .before .before .before .before .before .before .before .args .card .now) (c .before .before .before .before .before .before .loop .at) (c .before .before .before .pair .given .0 .1 .1 .0)
+    × Onward (c .before .before .before .before .before .before .before .before .args .card .now)
+    (c .before .before .before .before .before .before .loop .at) (c .before .before .before .pair .given .0 .1 .1 .0)
 took c =
-    turn-next (c .before .before .before .before .before .before .before .before .args .card .now) (c .before .before .before .before .before .before .before .before .args .equations) (c .before .before .before .before .before .before .before .before .args .unknowns) (c .before .before .before .before .before .before .loop .last .equation .0) (c .before .before .before .before .before .before .loop .last .unknown .0)
-    (c .before .before .before .before .before .before .loop .at) (sym (c .before .before .before .before .before .read-turn .ensures) ∙ c .before .before .before .pair .given .1)
+    turn-next (c .before .before .before .before .before .before .before .before .args .card .now)
+    (c .before .before .before .before .before .before .before .before .args .equations)
+    (c .before .before .before .before .before .before .before .before .args .unknowns)
+    (c .before .before .before .before .before .before .loop .last .equation .0)
+    (c .before .before .before .before .before .before .loop .last .unknown .0)
+    (c .before .before .before .before .before .before .loop .at) (sym (c .before .before .before .before .before .read-turn .ensures) ∙ c .before
+    .before .before .pair .given .1)
 
 place-requires : tie.Need-place-requires Inv-loop μ-loop
 place-requires c κs = took c .0 .ranged .e-low
 
 mul-cell : tie.Need-mul-cell Inv-loop μ-loop
-mul-cell c = omega (arith, place-fits {U = c .before .before .before .before .before .before .before .before .before .args .unknowns} (c .before .before .before .before .before .before .before .before .before .pre .0) (took (c .before) .0 .ranged) (c .place .ensures))
+mul-cell c = omega (
+  arith,
+  place-fits {U = c .before .before .before .before .before .before .before .before .before .args .unknowns}
+      (c .before .before .before .before .before .before .before .before .before .pre .0) (took (c .before) .0 .ranged) (c .place .ensures),
+)
 
 place-requires-2 : tie.Need-place-requires-2 Inv-loop μ-loop
 place-requires-2 c κs = took (c .before) .0 .ranged .u-low
 
 add-cell : tie.Need-add-cell Inv-loop μ-loop
-add-cell c = omega (arith, cell-fits {U = c .before .before .before .before .before .before .before .before .before .before .args .unknowns} (c .before .before .before .before .before .before .before .before .before .before .pre .0) (took (c .before .before) .0 .ranged) (c .before .place .ensures) (c .place2 .ensures))
+add-cell c = omega (
+  arith,
+  cell-fits {U = c .before .before .before .before .before .before .before .before .before .before .args .unknowns}
+      (c .before .before .before .before .before .before .before .before .before .before .pre .0) (took (c .before .before) .0 .ranged)
+      (c .before .place .ensures) (c .place2 .ensures),
+)
 
 array-write-table : tie.Need-array-write-table Inv-loop μ-loop
-array-write-table c = cell-fits {U = c .before .before .before .before .before .before .before .before .before .before .args .unknowns} (c .before .before .before .before .before .before .before .before .before .before .pre .0) (took (c .before .before) .0 .ranged) (c .before .place .ensures) (c .place2 .ensures)
+array-write-table c = cell-fits {U = c .before .before .before .before .before .before .before .before .before .before .args .unknowns}
+    (c .before .before .before .before .before .before .before .before .before .before .pre .0) (took (c .before .before) .0 .ranged)
+    (c .before .place .ensures) (c .place2 .ensures)
 
 add-count : tie.Need-add-count Inv-loop μ-loop
-add-count c = omega (arith, c .before .before .before .before .before .before .before .before .loop .inv .fewer, c .before .before .before .before .before .before .before .before .loop .inv .room, c .before .before .before .before .before .before .before .before .before .before .good .0)
+add-count c = omega (
+  arith,
+  c .before .before .before .before .before .before .before .before .loop .inv .fewer,
+  c .before .before .before .before
+      .before .before .before .before .loop .inv .room,
+  c .before .before .before .before .before .before .before .before .before .before .good .0,
+)
 
 loop-less : tie.Need-loop-less Inv-loop μ-loop
 loop-less c = let w = took (c .before .before) .1 in omega (arith, w .more, w .room)
 
 loop-again : tie.Need-loop-again Inv-loop μ-loop
-loop-again c = rw (c .before .place .ensures, c .place2 .ensures) (listing-next (c .before .before .before .before .before .before .before .before .loop .inv) (sym (c .before .before .before .before .before .before .before .read-turn .ensures) ∙ c .before .before .before .before .before .pair .given .1))
+loop-again c = rw (c .before .place .ensures, c .place2 .ensures) (listing-next
+    (c .before .before .before .before .before .before .before .before .loop .inv)
+    (sym (c .before .before .before .before .before .before .before .read-turn .ensures) ∙ c .before .before .before .before .before .pair .given .1))
 
 pub read-list-spec : {M : Type 1} → statement M
 read-list-spec =
@@ -85,9 +114,8 @@ read-list-spec =
     enum-known-number
     returns
     enum-known-said
+    read-end-requires
     returns-2
-    returns-3
-    returns-4
     enum-known-pair
     place-requires
     mul-cell

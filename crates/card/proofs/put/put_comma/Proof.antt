@@ -9,7 +9,12 @@ put-number-requires : tie.Need-put-number-requires
 put-number-requires c κs = search needs
 
 put-requires : tie.Need-put-requires
-put-requires c κs = omega (arith, c .before .before .before .put-number .ensures .place, c .before .before .before .before .before .before .pre, dec-short (c .before .before .before .before .before .before .args .n))
+put-requires c κs = omega (
+  arith,
+  c .before .before .before .put-number .ensures .place,
+  c .before .before .before .before .before .before .pre,
+  dec-short (c .before .before .before .before .before .before .args .n),
+)
 
 same-length : tie.Need-same-length
 same-length c = search needs

@@ -24,7 +24,12 @@ sub-put-all : tie.Need-sub-put-all
 sub-put-all c = omega (arith, c .before .zeros-of .ensures, zeros-small (c .before .before .before .before .before .before .before .args .n))
 
 part-put-all-start : tie.Need-part-put-all-start
-part-put-all-start c = omega (arith, c .before .before .zeros-of .ensures, zeros-small (c .before .before .before .before .before .before .before .before .args .n))
+part-put-all-start c = omega (
+  arith,
+  c .before .before .zeros-of .ensures,
+  zeros-small
+      (c .before .before .before .before .before .before .before .before .args .n),
+)
 
 part-put-all-end : tie.Need-part-put-all-end
 part-put-all-end c = search needs
@@ -36,7 +41,12 @@ same-length : tie.Need-same-length
 same-length c = search needs
 
 returns : tie.Need-returns
-returns c = number-laid (c .before .before .before .before .before .before .before .before .before .before .before .before .args .n) (c .before .before .before .before .before .before .before .before .before .before .digit-of .ensures) (c .before .before .before .before .before .before .before .before .before .digit-of2 .ensures) (c .before .before .before .before .before .before .before .before .digit-of3 .ensures) (c .before .before .before .before .before .before .before .digit-of4 .ensures) (c .before .before .before .before .before .before .zeros-of .ensures) (c .before .before .put-all .ensures)
+returns c = number-laid (c .before .before .before .before .before .before .before .before .before .before .before .before .args .n)
+    (c .before .before .before .before .before .before .before .before .before .before .digit-of .ensures)
+    (c .before .before .before .before .before .before .before .before .before .digit-of2 .ensures)
+    (c .before .before .before .before .before .before .before .before .digit-of3 .ensures)
+    (c .before .before .before .before .before .before .before .digit-of4 .ensures)
+    (c .before .before .before .before .before .before .zeros-of .ensures) (c .before .before .put-all .ensures)
 
 pub put-number-spec : {M : Type 1} → statement M
 put-number-spec =

@@ -21,7 +21,8 @@ shared-slice-read-if1 : tie.Need-shared-slice-read-if1 Inv-loop μ-loop
 shared-slice-read-if1 c = omega arith
 
 returns : tie.Need-returns Inv-loop μ-loop
-returns c = sym (c .before .before .before .loop .inv ∙ end-here (c .before .before .before .before .args .card .now) (c .before .before .before .loop .end) (omega arith) (c .if1 .taken))
+returns c = sym (c .before .before .before .loop .inv ∙ end-here (c .before .before .before .before .args .card .now)
+    (c .before .before .before .loop .end) (omega arith) (c .if1 .taken))
 
 add-end : tie.Need-add-end Inv-loop μ-loop
 add-end c = omega arith
@@ -30,7 +31,8 @@ loop-less : tie.Need-loop-less Inv-loop μ-loop
 loop-less c = omega arith
 
 loop-again : tie.Need-loop-again Inv-loop μ-loop
-loop-again c = c .before .before .before .loop .inv ∙ end-on (c .before .before .before .before .args .card .now) (c .before .before .before .loop .end) (omega arith) (c .if1 .left)
+loop-again c = c .before .before .before .loop .inv ∙ end-on (c .before .before .before .before .args .card .now)
+    (c .before .before .before .loop .end) (omega arith) (c .if1 .left)
 
 returns-2 : tie.Need-returns-2 Inv-loop μ-loop
 returns-2 c = sym (c .before .loop .inv ∙ end-none (c .before .before .args .card .now) (c .before .loop .end) (omega arith))

@@ -28,7 +28,9 @@ shared-slice-read-if2-2 : tie.Need-shared-slice-read-if2-2 Inv-loop μ-loop
 shared-slice-read-if2-2 c = omega arith
 
 returns-2 : tie.Need-returns-2 Inv-loop μ-loop
-returns-2 c = sym (c .before .before .before .before .loop .inv .2 ∙ begins-at (c .before .before .before .before .before .before .args .key .now) (c .before .before .before .before .before .before .args .text .now) (c .before .before .before .before .loop .i) (omega arith) (omega arith) ∙ rw (ne-eqb _ _ (c .if2 .taken)))
+returns-2 c = sym (c .before .before .before .before .loop .inv .2 ∙ begins-at (c .before .before .before .before .before .before .args .key .now)
+    (c .before .before .before .before .before .before .args .text .now) (c .before .before .before .before .loop .i) (omega arith) (omega arith) ∙
+    rw (ne-eqb _ _ (c .if2 .taken)))
 
 add-i : tie.Need-add-i Inv-loop μ-loop
 add-i c = omega arith
@@ -37,7 +39,13 @@ loop-less : tie.Need-loop-less Inv-loop μ-loop
 loop-less c = omega arith
 
 loop-again : tie.Need-loop-again Inv-loop μ-loop
-loop-again c = (omega arith, omega arith, c .before .before .before .before .loop .inv .2 ∙ begins-at (c .before .before .before .before .before .before .args .key .now) (c .before .before .before .before .before .before .args .text .now) (c .before .before .before .before .loop .i) (omega arith) (omega arith) ∙ rw (eq-eqb _ _ (c .if2 .left)))
+loop-again c = (
+  omega arith,
+  omega arith,
+  c .before .before .before .before .loop .inv .2 ∙ begins-at
+      (c .before .before .before .before .before .before .args .key .now) (c .before .before .before .before .before .before .args .text .now)
+      (c .before .before .before .before .loop .i) (omega arith) (omega arith) ∙ rw (eq-eqb _ _ (c .if2 .left)),
+)
 
 returns-3 : tie.Need-returns-3 Inv-loop μ-loop
 returns-3 c = sym (c .before .loop .inv .2 ∙ begins-done (c .before .before .before .args .key .now) (c .before .loop .i) _ (omega arith))

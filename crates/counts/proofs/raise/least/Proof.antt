@@ -1,6 +1,5 @@
 -- `raise::least`: as many equations as can be are paired, then whoever the next one asked is raised, and so on; a raise keeps what is kept and brings the
 -- sums nearer. With all equations paired what is kept is the answer.
-use mathlib.Core.Path.{_≡_}
 use Prim.Native.Nat.{_-_, _<_, _≤_}
 use native.Mathlib.Omega.{arith}
 use borrow.Author.Needs.{needs}
