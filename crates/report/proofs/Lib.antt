@@ -4,3 +4,4 @@ pub mod TextLaws
 pub mod Examining
 pub mod Printing
 pub mod Truth
+pub mod Examples
