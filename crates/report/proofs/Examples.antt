@@ -1,6 +1,6 @@
 -- Document 01's printed examples, computed from the definitions.
 use mathlib.Core.Path.{_≡_, refl}
-use mathlib.Core.List.{List, [], _∷_}
+use mathlib.Core.List.{[], _∷_}
 use Rattle.laws.specs.Text.{bytes}
 use Rattle.card.specs.Text.{dec}
 use Rattle.report.specs.Printed.{solvableLines, singularLines, refusedText, placeDec}
