@@ -4,7 +4,9 @@ use table::LIMIT;
 use table::number::Equation;
 use table::number::Unknown;
 use table::rows::occurs;
+ghost use mathlib.Core.Path.{_≡_};
 ghost use Prim.Native.Nat.{ℕ, _-_, _≤_};
+ghost use lib.ListN.{set};
 ghost use Rattle.table.specs.Model.{limit, Numbered, occursAt};
 ghost use Rattle.pairing.specs.Holders.{Asking, Searched};
 ghost use Rattle.pairing.specs.Looking.{AllHeld, FreeIn, NextIn};
@@ -68,6 +70,34 @@ fn next_held(
     Unknown(0)
 }
 
+// The asker takes an unknown that nobody holds.
+fn taken(free: Unknown, asker: Equation, holders: [Equation; LIMIT], asked: [bool; LIMIT]) -> Answer
+    requires { ⌜ Numbered (free .0) ⌝ }
+    ensures { λ r. ⌜ (r .got .0 ≡ free .0) × (r .holders ≡ set holders (free .0 - 1) asker) × (r .asked ≡ asked) ⌝ }
+{
+    let mut holders = holders;
+    let place = free.place();
+    holders[place] = asker;
+    Answer {
+        got: free,
+        holders,
+        asked,
+    }
+}
+
+// The asker has what the former holder gave up when it moved on.
+fn handed_over(got: Unknown, moved: Answer) -> Answer
+    ensures { λ r. ⌜ (r .got .0 ≡ got .0) × (r .holders ≡ moved .holders) × (r .asked ≡ moved .asked) ⌝ }
+{
+    let holders = moved.holders;
+    let asked = moved.asked;
+    Answer {
+        got,
+        holders,
+        asked,
+    }
+}
+
 // One search. It calls itself on the present holder of an unknown that it needs; what falls is the number of those not yet asked.
 pub fn search(
     table: &[[u8; LIMIT]; LIMIT],
@@ -86,13 +116,7 @@ pub fn search(
     asked[at] = true;
     let free = free_unknown(table, unknowns, asker, holders);
     if free.0 != 0 {
-        let place = free.place();
-        holders[place] = asker;
-        return Answer {
-            got: free,
-            holders,
-            asked,
-        };
+        return taken(free, asker, holders, asked);
     }
     let mut wanted = next_held(table, unknowns, asker, 0, holders, asked);
     while wanted.0 != 0 {
@@ -102,13 +126,7 @@ pub fn search(
         holders[place] = asker;
         let moved = search(table, unknowns, holder, holders, asked);
         if moved.got.0 != 0 {
-            let holders = moved.holders;
-            let asked = moved.asked;
-            return Answer {
-                got: wanted,
-                holders,
-                asked,
-            };
+            return handed_over(wanted, moved);
         }
         holders[place] = holder;
         asked = moved.asked;

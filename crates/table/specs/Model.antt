@@ -31,7 +31,7 @@ abbrev pub firstAbove : List ℕ → ℕ
 firstAbove [] = 0
 firstAbove (x ∷ xs) = pick (leb x topCode) (suc (firstAbove xs)) 0
 
--- a number of an equation or an unknown, counted from 1, and its place, counted from 0
+-- a number of an equation or an unknown, counted from 1
 pub record Numbered (n : ℕ) : Type 0 where
   pub low : 1 ≤ n
   pub high : n ≤ limit

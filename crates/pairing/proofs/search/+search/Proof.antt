@@ -20,7 +20,9 @@ use Rattle.pairing.proofs.search.search.Reads as search′
 use Rattle.pairing.proofs.search.search.Kinds as search-kinds
 use Rattle.pairing.proofs.search.+search.Lts-search as search-lts
 use Rattle.pairing.proofs.search.free_unknown.Reads as free-unknown-reads
+use Rattle.pairing.proofs.search.handed_over.Reads as handed-over-reads
 use Rattle.pairing.proofs.search.next_held.Reads as next-held-reads
+use Rattle.pairing.proofs.search.taken.Reads as taken-reads
 use Rattle.table.proofs.number.Equation.place.Reads as number-Equation-place-reads
 use Rattle.table.proofs.number.Unknown.place.Reads as number-Unknown-place-reads
 use Rattle.pairing.proofs.search.+search.{statement}
@@ -42,12 +44,16 @@ C t = (
   number-Equation-place-reads.Learnt,
   free-unknown-reads.Asked,
   free-unknown-reads.Learnt,
-  number-Unknown-place-reads.Asked,
-  number-Unknown-place-reads.Learnt,
+  taken-reads.Asked,
+  taken-reads.Learnt,
   next-held-reads.Asked,
   next-held-reads.Learnt,
+  number-Unknown-place-reads.Asked,
+  number-Unknown-place-reads.Learnt,
   search-below t,
   search′.Post,
+  handed-over-reads.Asked,
+  handed-over-reads.Learnt,
 )
 
 -- the holders are those of the start, and the second pass stands at the wanted unknown
@@ -81,7 +87,7 @@ turn-at : (t : ℕ) (c : At t) → Turn
 turn-at t c = rw (c .before .before .before .before .before .place .ensures) at (c .loop .inv .1)
 
 abbrev Wanting : ℕ → Type 0
-Wanting t = search-lts.After-place3 (C t) (search-at t) search′.Post Inv-loop μ-loop
+Wanting t = search-lts.After-place2 (C t) (search-at t) search′.Post Inv-loop μ-loop
 
 wants : (t : ℕ) (c : Wanting t) → Wanted
     (c .before .before .before .before .before .before .before .before .before .args .unknowns)
@@ -89,9 +95,9 @@ wants : (t : ℕ) (c : Wanting t) → Wanted
     (c .before .before .before .before .before .before .before .before .before .args .asker .0 - 1)
     (c .before .before .before .before .before .before .before .before .before .args .holders)
     (c .before .before .before .loop .asked)
-    (c .place3 .result)
+    (c .place2 .result)
 wants t c =
-    wanted (every-one-held t (c .before .before .before)) (c .before .before .before .loop .inv .1 .next) (c .before .if2 .taken) (c .place3 .result) (c .place3 .ensures)
+    wanted (every-one-held t (c .before .before .before)) (c .before .before .before .loop .inv .1 .next) (c .before .if2 .taken) (c .place2 .result) (c .place2 .ensures)
 
 asked-at : (t : ℕ) (c : Wanting t)
     → (marked (c .before .before .before .loop .asked) (c .before .before .before .before .before .before .before .before .before .args .asker .0 - 1) ≡ true)
@@ -106,14 +112,14 @@ given-at : (t : ℕ) (c : Wanting t) → Given
     (held
     (set
     (c .before .before .before .before .before .before .before .before .before .args .holders)
-    (c .place3 .result)
+    (c .place2 .result)
     (c .before .before .before .before .before .before .before .before .before .args .asker)))
     (c .before .before .before .before .before .before .before .before .before .args .asker .0 - 1)
-    (c .place3 .result)
+    (c .place2 .result)
 given-at t c =
     let q = c .before .before .before .before .before .before .before .before .before in
     let w = wants t c in
-    giving (q .args .holders) (q .args .asker .0 - 1) (c .place3 .result) (q .args .asker) (search needs) (omega arith)
+    giving (q .args .holders) (q .args .asker .0 - 1) (c .place2 .result) (q .args .asker) (search needs) (omega arith)
 
 -- what the former holder's own search handed back
 moved : (t : ℕ) (c : search-lts.After-search (C t) (search-at t) search′.Post Inv-loop μ-loop) (m : ℕ)
@@ -126,11 +132,11 @@ moved : (t : ℕ) (c : search-lts.After-search (C t) (search-at t) search′.Pos
     → Searched m
     (c .before .before .before .before .before .before .before .before .before .before .before .args .unknowns)
     (occursAt (c .before .before .before .before .before .before .before .before .before .before .before .args .table .now))
-    (holder (c .before .before .before .before .before .before .before .before .before .before .before .args .holders) (c .before .before .place3 .result) - 1)
+    (holder (c .before .before .before .before .before .before .before .before .before .before .before .args .holders) (c .before .before .place2 .result) - 1)
     (c .before .before .before .before .before .loop .asked)
     (set
     (c .before .before .before .before .before .before .before .before .before .before .before .args .holders)
-    (c .before .before .place3 .result)
+    (c .before .before .place2 .result)
     (c .before .before .before .before .before .before .before .before .before .before .before .args .asker))
     (c .search .result .got .0)
     (c .search .result .holders)
@@ -146,12 +152,12 @@ failed : (t : ℕ) (c : search-lts.Else3 (C t) (search-at t) search′.Post Inv-
     (occursAt (c .before .before .before .before .before .before .before .before .before .before .before .before .before .args .table .now))
     (holder
     (c .before .before .before .before .before .before .before .before .before .before .before .before .before .args .holders)
-    (c .before .before .before .before .place3 .result) - 1)
+    (c .before .before .before .before .place2 .result) - 1)
     (c .before .before .before .before .before .before .before .loop .asked)
     (c .before .before .search .result .asked)
     (set
     (c .before .before .before .before .before .before .before .before .before .before .before .before .before .args .holders)
-    (c .before .before .before .before .place3 .result)
+    (c .before .before .before .before .place2 .result)
     (c .before .before .before .before .before .before .before .before .before .before .before .before .before .args .asker))
 failed t c =
     let q = c .before .before .before .before .before .before .before .before .before .before .before .before .before in
@@ -159,6 +165,9 @@ failed t c =
 
 answer-length : (t : ℕ) (c : search-lts.After-search (C t) (search-at t) search′.Post Inv-loop μ-loop) → length (c .search .result .asked) ≡ limit
 answer-length t c = search needs
+
+entry-holders : (t : ℕ) (c : search-lts.Start (C t) (search-at t) search′.Post Inv-loop μ-loop) → length (c .args .holders) ≡ limit
+entry-holders t c = search needs
 
 entry-length : (t : ℕ) (c : search-lts.Start (C t) (search-at t) search′.Post Inv-loop μ-loop) → length (c .args .asked) ≡ limit
 entry-length t c = search needs
@@ -172,21 +181,21 @@ array-write-asked t c = let s = c .before .pre .1 .1 in omega arith
 free-unknown-requires : (t : ℕ) → search-lts.Need-free-unknown-requires (C t) (search-at t) search′.Post Inv-loop μ-loop
 free-unknown-requires t c κs = let s = c .before .pre .1 .1 in (record { low = c .before .pre .1 .0; high = omega arith }, s .unknowns)
 
-place-requires-2 : (t : ℕ) → search-lts.Need-place-requires-2 (C t) (search-at t) search′.Post Inv-loop μ-loop
-place-requires-2 t c κs = search needs
-
-array-set-from-holders : (t : ℕ) → search-lts.Need-array-set-from-holders (C t) (search-at t) search′.Post Inv-loop μ-loop
-array-set-from-holders t c =
-    let s = c .before .before .before .before .before .pre .1 .1 in
-    let f = c .before .before .before .free-unknown .ensures .hit (c .before .if1 .taken) in
-    omega (arith, f .0)
+taken-requires : (t : ℕ) → search-lts.Need-taken-requires (C t) (search-at t) search′.Post Inv-loop μ-loop
+taken-requires t c κs =
+    let s = c .before .before .before .before .pre .1 .1 in
+    let ne = c .if1 .taken in
+    let f = c .before .before .free-unknown .ensures .hit ne in
+    record { low = omega arith; high = omega (arith, f .0) }
 
 returns : (t : ℕ) → search-lts.Need-returns (C t) (search-at t) search′.Post Inv-loop μ-loop
 returns t c =
     let q = c .before .before .before .before .before in
-    let f = rw (← (c .place2 .ensures)) at (c .before .before .before .free-unknown .ensures .hit (c .before .if1 .taken)) in
-    let g = giving (q .args .holders) (q .args .asker .0 - 1) (c .place2 .result) (q .args .asker) (search needs) (omega arith) in
-    λ m s. has-found (c .before .if1 .taken) (takes s (f .0) (f .1) (f .2) g, rw (← (c .place2 .ensures)) (g .here))
+    let u = c .before .before .before .free-unknown .result .0 - 1 in
+    let f = c .before .before .before .free-unknown .ensures .hit (c .before .if1 .taken) in
+    let b : u < length (q .args .holders) = omega (arith, f .0, q .pre .1 .1 .unknowns, entry-holders t q) in
+    let g = giving (q .args .holders) (q .args .asker .0 - 1) u (q .args .asker) b (omega arith) in
+    rw (c .taken .ensures .0, c .taken .ensures .1) (λ m s. has-found (c .before .if1 .taken) (takes s (f .0) (f .1) (f .2) g, g .here))
 
 next-held-requires : (t : ℕ) → search-lts.Need-next-held-requires (C t) (search-at t) search′.Post Inv-loop μ-loop
 next-held-requires t c κs =
@@ -199,8 +208,8 @@ next-held-requires t c κs =
 loop-holds : (t : ℕ) → search-lts.Need-loop-holds (C t) (search-at t) search′.Post Inv-loop μ-loop
 loop-holds t c = (refl, turn-start (c .next-held .ensures), search needs)
 
-place-requires-3 : (t : ℕ) → search-lts.Need-place-requires-3 (C t) (search-at t) search′.Post Inv-loop μ-loop
-place-requires-3 t c κs = search needs
+place-requires-2 : (t : ℕ) → search-lts.Need-place-requires-2 (C t) (search-at t) search′.Post Inv-loop μ-loop
+place-requires-2 t c κs = search needs
 
 array-copy-out-holder : (t : ℕ) → search-lts.Need-array-copy-out-holder (C t) (search-at t) search′.Post Inv-loop μ-loop
 array-copy-out-holder t c =
@@ -208,8 +217,8 @@ array-copy-out-holder t c =
     let s = c .before .before .before .before .before .before .before .before .before .pre .1 .1 in
     omega arith
 
-array-set-from-holders-2 : (t : ℕ) → search-lts.Need-array-set-from-holders-2 (C t) (search-at t) search′.Post Inv-loop μ-loop
-array-set-from-holders-2 t c =
+array-set-from-holders : (t : ℕ) → search-lts.Need-array-set-from-holders (C t) (search-at t) search′.Post Inv-loop μ-loop
+array-set-from-holders t c =
     let w = wants t (c .before) in
     let s = c .before .before .before .before .before .before .before .before .before .before .pre .1 .1 in
     omega arith
@@ -229,16 +238,19 @@ search-requires t c κs =
       ),
     )
 
+handed-over-requires : (t : ℕ) → search-lts.Need-handed-over-requires (C t) (search-at t) search′.Post Inv-loop μ-loop
+handed-over-requires t c κs = search needs
+
 returns-2 : (t : ℕ) → search-lts.Need-returns-2 (C t) (search-at t) search′.Post Inv-loop μ-loop
 returns-2 t c =
-    let p = c .before .before .before .before .before .before in
-    λ m s. has-found (p .before .if2 .taken)
-    (rw (← (p .place3 .ensures))
-    (moves s (wants t p .by) (wants t p .fresh) (asked-at t p) (given-at t p)
-    (moved t (c .before .before .before .before) m s .found (c .before .before .if3 .taken) .0)))
+    let p = c .before .before .before .before .before in
+    rw (c .handed-over .ensures .0, c .handed-over .ensures .1)
+    (λ m s. has-found (p .before .if2 .taken)
+    (rw (← (p .place2 .ensures))
+    (moves s (wants t p .by) (wants t p .fresh) (asked-at t p) (given-at t p) (moved t (c .before .before .before) m s .found (c .before .if3 .taken) .0))))
 
-array-set-from-holders-3 : (t : ℕ) → search-lts.Need-array-set-from-holders-3 (C t) (search-at t) search′.Post Inv-loop μ-loop
-array-set-from-holders-3 t c =
+array-set-from-holders-2 : (t : ℕ) → search-lts.Need-array-set-from-holders-2 (C t) (search-at t) search′.Post Inv-loop μ-loop
+array-set-from-holders-2 t c =
     let w = wants t (c .before .before .before .before) in
     let s = c .before .before .before .before .before .before .before .before .before .before .before .before .before .pre .1 .1 in
     omega arith
@@ -251,7 +263,7 @@ next-held-requires-2 t c κs =
     let l = c .before .before .before .before .before .before .before .before in
     let q = l .before .before .before .before .before .before in
     let s = q .pre .1 .1 in
-    let back = restored (l .loop .holders) (c .before .before .before .before .before .place3 .result) (q .args .asker) ∙ l .loop .inv .0 in
+    let back = restored (l .loop .holders) (c .before .before .before .before .before .place2 .result) (q .args .asker) ∙ l .loop .inv .0 in
     (record { low = q .pre .1 .0; high = omega arith }, s .unknowns, rw back (every-one-held t l))
 
 loop-less : (t : ℕ) → search-lts.Need-loop-less (C t) (search-at t) search′.Post Inv-loop μ-loop
@@ -261,7 +273,7 @@ loop-less t c =
     let l = p .before .before .before in
     let w = wants t p in
     let r = failed t e in
-    let g = holder (l .before .before .before .before .before .before .args .holders) (p .place3 .result) - 1 in
+    let g = holder (l .before .before .before .before .before .before .args .holders) (p .place2 .result) - 1 in
     falses-fall (l .loop .asked) (e .before .before .search .result .asked) (l .loop .inv .2 ∙ sym (answer-length t (e .before .before))) (r .more) g (w .fresh) (r .self)
 
 loop-again : (t : ℕ) → search-lts.Need-loop-again (C t) (search-at t) search′.Post Inv-loop μ-loop
@@ -271,13 +283,13 @@ loop-again t c =
     let l = p .before .before .before in
     let q = l .before .before .before .before .before .before in
     let w = wants t p in
-    let back = restored (l .loop .holders) (p .place3 .result) (q .args .asker) ∙ l .loop .inv .0 in (
+    let back = restored (l .loop .holders) (p .place2 .result) (q .args .asker) ∙ l .loop .inv .0 in (
       back,
-      turn-next (number p) (l .loop .inv .1) (w .occurs) (w .by) (given-at t p) (failed t e) (rw (back, add-one (p .place3 .result)) at (c .next-held2 .ensures)),
+      turn-next (number p) (l .loop .inv .1) (w .occurs) (w .by) (given-at t p) (failed t e) (rw (back, add-one (p .place2 .result)) at (c .next-held2 .ensures)),
       answer-length t (e .before .before),
     )
   where
-    number : (p : Wanting t) → p .before .before .before .loop .wanted .0 ≡ suc (p .place3 .result)
+    number : (p : Wanting t) → p .before .before .before .loop .wanted .0 ≡ suc (p .place2 .result)
     number p = omega arith
 
 returns-3 : (t : ℕ) → search-lts.Need-returns-3 (C t) (search-at t) search′.Post Inv-loop μ-loop
@@ -292,17 +304,17 @@ pub +search-spec : {M : Type 1} → statement M
     (place-requires t)
     (array-write-asked t)
     (free-unknown-requires t)
-    (place-requires-2 t)
-    (array-set-from-holders t)
+    (taken-requires t)
     (returns t)
     (next-held-requires t)
     (loop-holds t)
-    (place-requires-3 t)
+    (place-requires-2 t)
     (array-copy-out-holder t)
-    (array-set-from-holders-2 t)
+    (array-set-from-holders t)
     (search-requires t)
+    (handed-over-requires t)
     (returns-2 t)
-    (array-set-from-holders-3 t)
+    (array-set-from-holders-2 t)
     (add-next-held t)
     (next-held-requires-2 t)
     (loop-less t)
