@@ -9,7 +9,7 @@ use native.Mathlib.Omega.{arith}
 use lib.Dec.{eqb, ltb}
 use lib.ListN.{length, getD, drop}
 use borrow.Author.Tests.{eqb-true, eq-eqb, ltb-true, le-ltb}
-use Rattle.laws.specs.Tab.{tab, pick}
+use Rattle.laws.specs.Tab.{tab, pick, numberAt}
 use Rattle.laws.specs.Marks.{marked}
 use Rattle.laws.proofs.Tests.{test, tests, true≢false, not-true, and-left, and-right, and-both}
 use Rattle.laws.proofs.Tab.{getD-tab, getD-past}
@@ -19,9 +19,8 @@ use Rattle.pairing.specs.Pairing.{Rel, turn, Pairing, size}
 use Rattle.pairing.specs.First.{Partners}
 use Rattle.pairing.specs.Members.{members}
 use Rattle.counts.specs.Fit.{leading, indexOf, freedomOf}
-use Rattle.counts.specs.Work.{numberAt}
 use Rattle.blocks.specs.Blocks.{needsAt, before}
-use Rattle.blocks.specs.Handed.{Within}
+use Rattle.blocks.proofs.ReachTables.{needs-within}
 use Rattle.analysis.specs.Outcome.{packed, strips, answerBytes, refusal, Solved, Singular, Verdict}
 use Rattle.analysis.specs.Written.{placesOf}
 use Rattle.analysis.specs.Models.{Row, Holds, Every, models}
@@ -55,12 +54,6 @@ solvedTests n edge ord rank r =
     ∷ eqb (r .number) (packed 0 0 rank (indexOf n (numberAt (r .strip1))) (freedomOf n n (numberAt (r .strip1)) (numberAt (r .strip2)))
     (before (numberAt (r .strip5)) n))
     ∷ []
-
-needs-within : (n : ℕ) (lead : Rel) (p : ℕ → ℕ) → Within n (needsAt n lead p)
-needs-within n lead p = record {
-  row = λ f g t. ltb-true f n (and-left (ltb f n) (ltb g n && (not (eqb f g) && lead f (p g))) t);
-  col = λ f g t. ltb-true g n (and-left (ltb g n) (not (eqb f g) && lead f (p g)) (and-right (ltb f n) (ltb g n && (not (eqb f g) && lead f (p g))) t));
-}
 
 abbrev bytesOf : Row → List ℕ → List ℕ
 bytesOf r before = strips (r .strip1) (r .strip2) (r .strip3) (r .strip4) (r .strip5) ++ drop answerBytes before

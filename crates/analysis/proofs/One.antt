@@ -14,7 +14,7 @@ use Rattle.pairing.proofs.Sizes.{rank-one}
 use Rattle.pairing.proofs.Lists.{listed-one}
 use Rattle.pairing.proofs.Choice.{first-one}
 use Rattle.counts.specs.Fit.{leading}
-use Rattle.counts.specs.Work.{numberAt}
+use Rattle.laws.specs.Tab.{numberAt}
 use Rattle.counts.proofs.Fit.{one-count, one-top}
 use Rattle.blocks.specs.Blocks.{needsAt, Placed}
 use Rattle.blocks.proofs.Placed.{one-placing, one-number}

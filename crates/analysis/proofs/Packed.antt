@@ -13,7 +13,8 @@ use Rattle.table.specs.Model.{inLimits, firstAbove, occursAt, orderAt, rowsOf}
 use Rattle.pairing.specs.Pairing.{Rel}
 use Rattle.pairing.proofs.Sizes.{size-rows}
 use Rattle.counts.specs.Fit.{indexOf, freedomOf}
-use Rattle.counts.specs.Work.{numberAt, topOrder}
+use Rattle.counts.specs.Work.{topOrder}
+use Rattle.laws.specs.Tab.{numberAt}
 use Rattle.counts.proofs.Fit.{freedom-high}
 use Rattle.counts.proofs.Gap.{index-bound}
 use Rattle.blocks.specs.Blocks.{before, Placed}

@@ -16,7 +16,7 @@ use Rattle.pairing.specs.Pairing.{Rel, turn, Pairing, size, Rank, LeftOver, Sur
 use Rattle.pairing.specs.Holders.{Reach}
 use Rattle.pairing.specs.Holders.Reach.{start, step}
 use Rattle.pairing.specs.Members.{members}
-use Rattle.pairing.proofs.Sizes.{turned, has-pair}
+use Rattle.pairing.proofs.Sizes.{pairing-turned, has-pair}
 use Rattle.pairing.specs.Left.{Certificate}
 use Rattle.pairing.proofs.Certificate.{largest, left-over}
 use Rattle.pairing.proofs.Turn.{left-over-unknown}
@@ -124,4 +124,4 @@ module _ (m n : ℕ) (edge M : Rel) (k : Pairing m n edge M) where
   surplus-are t = members-listed m (marked (overs m n edge M)) (left-over (certified m n edge M k t))
 
   pub unfixed-are : isLargest n m (turn edge) (turn M) ≡ true → Listed n (Unfixed m n edge) (members n (marked (overs n m (turn edge) (turn M))))
-  unfixed-are t = members-listed n (marked (overs n m (turn edge) (turn M))) (left-over-unknown (certified n m (turn edge) (turn M) (turned k) t))
+  unfixed-are t = members-listed n (marked (overs n m (turn edge) (turn M))) (left-over-unknown (certified n m (turn edge) (turn M) (pairing-turned k) t))

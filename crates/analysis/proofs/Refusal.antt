@@ -1,20 +1,18 @@
 -- The first refusal that applies, by the tests in their order, and what is known where none does.
 use mathlib.Core.Path.{_≡_, refl, sym, _∙_}
 use mathlib.Core.Bool.{Bool, true, false, not}
-use mathlib.Core.List.{List, [], _∷_}
+use mathlib.Core.List.{List}
 use Prim.Native.Nat.{ℕ, _*_, _^_, _<_, _≤_}
 use native.Mathlib.Nat.{mul-le-mul}
 use native.Mathlib.Omega.{arith}
-use lib.Dec.{eqb, ltb, leb}
+use lib.Dec.{eqb, ltb}
 use lib.ListN.{length}
 use borrow.Author.Tests.{eqb-true, eqb-false, ltb-true, ltb-false, eq-eqb, ne-eqb, lt-ltb, le-ltb}
 use Rattle.laws.proofs.Tests.{test, tests, clash, and-both}
-use Rattle.table.specs.Model.{topCode, inLimits, wellSized, firstAbove, rowsOf}
-use Rattle.table.proofs.Model.{limits}
-use Rattle.counts.proofs.Judged.{judged}
+use Rattle.table.specs.Model.{inLimits, wellSized, firstAbove, rowsOf, Bounded}
+use Rattle.table.proofs.Model.{limits, above-most, rows-bounded}
 use Rattle.analysis.proofs.Finite.{is-not}
 use Rattle.analysis.specs.Outcome.{answerBytes, refusal, refusalPlace}
-use Rattle.analysis.specs.Written.{Judged}
 
 -- what a test said that was turned round
 pub is-out : {r a : Bool} → r ≡ a → not r ≡ true → a ≡ false
@@ -42,10 +40,6 @@ module _ (E U : ℕ) (t : List ℕ) (room : ℕ) where
 
   pub is-none : inLimits E U ≡ true → length t ≡ E * U → answerBytes ≤ room → length t ≤ firstAbove t → 0 ≡ refusal E U t room
   is-none a b c d = rw (a, eq-eqb (length t) (E * U) b, le-ltb room answerBytes c, le-ltb (firstAbove t) (length t) d) refl
-
-above-most : (t : List ℕ) → firstAbove t ≤ length t
-above-most [] = omega arith
-above-most (x ∷ t) = let r = above-most t in test (leb x topCode) (λ a. rw a (omega arith)) (λ a. rw a (omega arith))
 
 -- what was not refused
 pub record Accepted (E U : ℕ) (t : List ℕ) (room : ℕ) : Type 0 where
@@ -77,10 +71,8 @@ accepted E U t room z = test (inLimits E U)
 pub well-sized : {E U : ℕ} {t : List ℕ} {room : ℕ} → Accepted E U t room → wellSized E U t ≡ true
 well-sized {E} {U} {t} a = and-both (a .inside) (eq-eqb (length t) (E * U) (a .bytes))
 
-pub judged-rows : {E U : ℕ} {t : List ℕ} {room : ℕ} → Accepted E U t room → Judged E U (rowsOf E U t)
-judged-rows {E} {U} {t} a =
-    let l = limits E U (a .inside) in
-    record { equations = l .0 .high; unknowns = l .1 .high; codes = judged E U t (well-sized a) (a .codes) }
+pub judged-rows : {E U : ℕ} {t : List ℕ} {room : ℕ} → Accepted E U t room → Bounded E U (rowsOf E U t)
+judged-rows {E} {U} {t} a = rows-bounded E U t (well-sized a) (a .codes)
 
 -- the place of a refusal takes two bytes at most
 pub place-fits : (E U : ℕ) (t : List ℕ) (room : ℕ) → refusalPlace (refusal E U t room) t ≤ 65535

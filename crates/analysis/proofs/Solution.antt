@@ -15,12 +15,14 @@ use Rattle.table.specs.declared.number.Unknown.{Unknown}
 use Rattle.pairing.specs.Pairing.{Rel}
 use Rattle.pairing.specs.First.{Partners, First, partnerOf}
 use Rattle.counts.specs.Fit.{Least, leading, indexOf, freedomOf}
-use Rattle.counts.specs.Work.{numberAt, leadingAt, leadingRows}
+use Rattle.counts.specs.Work.{leadingAt, leadingRows}
+use Rattle.laws.specs.Tab.{numberAt}
 use Rattle.counts.proofs.Work.{rows-lead}
 use Rattle.blocks.specs.Blocks.{needsAt, Placed}
 use Rattle.blocks.specs.Handed.{partnerAt}
 use Rattle.analysis.specs.Outcome.{packed, strips, answerBytes, Solved}
-use Rattle.analysis.specs.Written.{placesOf, unknownNumber, equationNumber, SolutionIs}
+use Rattle.analysis.specs.Written.{placesOf, SolutionIs}
+use Rattle.table.specs.Number.{equationNumber, unknownNumber}
 
 -- the first n of a list that is 0 beyond them
 front-is : (n : ℕ) (l : List ℕ) → ((i : ℕ) → n ≤ i → numberAt l i ≡ 0) → numberAt (take n l) ≡ numberAt l

@@ -9,15 +9,14 @@ use lib.ListN.{length, drop}
 use borrow.Author.Tests.{eqb-true, eq-eqb}
 use Rattle.laws.specs.Marks.{marked}
 use Rattle.laws.proofs.Tests.{clash, and-left, and-right, and-both}
-use Rattle.table.specs.Model.{occursAt, orderAt, rowsOf}
+use Rattle.table.specs.Model.{occursAt, orderAt, rowsOf, Bounded}
 use Rattle.pairing.specs.Pairing.{Rel, Rank}
 use Rattle.pairing.specs.Left.{LeftIs}
 use Rattle.pairing.specs.Members.{members}
 use Rattle.pairing.proofs.Sizes.{size-full}
 use Rattle.pairing.proofs.Lists.{members-listed}
-use Rattle.counts.specs.Work.{Ready}
+use Rattle.counts.specs.Work.{Pairable}
 use Rattle.analysis.specs.Outcome.{packed, strips, answerBytes, refusal, refusalPlace, Solved, Verdict, Reply}
-use Rattle.analysis.specs.Written.{Judged}
 
 -- the test of the code, taken apart
 paired-square : (E U rank : ℕ) → (eqb E U && eqb rank E) ≡ true → E ≡ U
@@ -27,15 +26,14 @@ paired-all : (E U rank : ℕ) → (eqb E U && eqb rank E) ≡ true → rank ≡ 
 paired-all E U rank t = eqb-true rank E (and-right (eqb E U) (eqb rank E) t)
 
 -- what the counts ask for: with all paired a largest pairing takes in every equation
-pub all-ready : {E U rank : ℕ} {t : List (List ℕ)} {surplus unfixed : List Bool} → Judged E U t → LeftIs E U (occursAt t) rank surplus unfixed
-    → (eqb E U && eqb rank E) ≡ true → Ready E t
-all-ready {E} {U} {rank} {t} j l w =
+pub all-pairable : {E U rank : ℕ} {t : List (List ℕ)} {surplus unfixed : List Bool} → Bounded E U t → LeftIs E U (occursAt t) rank surplus unfixed
+    → (eqb E U && eqb rank E) ≡ true → Pairable E t
+all-pairable {E} {U} {rank} {t} j l w =
     let same = paired-square E U rank w in
     let all : Rank E U (occursAt t) E = subst (λ (k : ℕ). Rank E U (occursAt t) k) (paired-all E U rank w) (l .ranked) in
     let r : Rank E E (occursAt t) E = subst (λ (n : ℕ). Rank E n (occursAt t) E) (sym same) all in
     record {
-      within = j .equations;
-      codes = λ e u h k. j .codes e u h (omega arith);
+      bounded = record { equations = j .equations; unknowns = j .equations; codes = λ e u h k. j .codes e u h (omega arith) };
       pairs = r .pairs;
       full = size-full (r .largest .ok) (r .counts);
     }

@@ -6,12 +6,11 @@ use mathlib.Core.List.{List, [], _++_, map}
 use Prim.Native.Nat.{ℕ, suc, _+_, _*_}
 use lib.Dec.{eqb, ltb}
 use lib.ListN.{length, getD, drop}
-use Rattle.laws.specs.Tab.{tab, pick}
+use Rattle.laws.specs.Tab.{tab, pick, numberAt}
 use Rattle.table.specs.Model.{limit, inLimits, firstAbove, occursAt, orderAt, rowsOf}
 use Rattle.pairing.specs.Pairing.{Rel, Rank, Surplus, Unfixed, Listed}
 use Rattle.pairing.specs.First.{First}
 use Rattle.counts.specs.Fit.{Least, leading, indexOf, freedomOf}
-use Rattle.counts.specs.Work.{numberAt}
 use Rattle.blocks.specs.Blocks.{needsAt, Placed}
 
 -- the six numbers as one: from the lowest byte code, place (two bytes, low first), rank, index, freedom, blocks, then 0

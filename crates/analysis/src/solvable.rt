@@ -1,8 +1,6 @@
 // The answer to a solvable model: its least counts, their tops, the first partners over the leading occurrences, and the solving order.
 use crate::number::pack;
-use crate::strip::equations;
 use crate::strip::numbers;
-use crate::strip::unknowns;
 use blocks::place::solve_order;
 use counts::figures::freedom;
 use counts::figures::index;
@@ -17,9 +15,10 @@ ghost use mathlib.Core.List.{_++_, map};
 ghost use Prim.Native.Nat.{_≤_};
 ghost use lib.ListN.{length, take, drop};
 ghost use Rattle.table.specs.Model.{limit, occursAt, orderAt};
-ghost use Rattle.counts.specs.Work.{Ready};
+ghost use Rattle.table.specs.Number.{equationNumber, unknownNumber};
+ghost use Rattle.counts.specs.Work.{Pairable};
 ghost use Rattle.analysis.specs.Outcome.{strips, answerBytes, Solved};
-ghost use Rattle.analysis.specs.Written.{unknownNumber, equationNumber, SolutionIs};
+ghost use Rattle.analysis.specs.Written.{SolutionIs};
 
 // Counts by equation, tops by unknown, partners by equation, the equations in solving order with the block number of each place, and three figures.
 pub struct Solution {
@@ -35,7 +34,7 @@ pub struct Solution {
 
 // What is to be said of a model of n equations that all have a pair.
 fn solve(rows: &[[u8; LIMIT]; LIMIT], n: usize) -> Solution
-    requires { ⌜ Ready n (now rows) ⌝ }
+    requires { ⌜ Pairable n (now rows) ⌝ }
     ensures { λ r. ⌜ SolutionIs n (now (rows .entry)) (r .counts) (r .tops) (r .partners) (r .order) (r .block) (r .index) (r .freedom) (r .blocks) ⌝ }
 {
     let choice = least(rows, n);
@@ -75,14 +74,22 @@ fn write(
 {
     numbers(&mut answer[0..LIMIT], n, counts);
     numbers(&mut answer[LIMIT..2 * LIMIT], n, tops);
-    unknowns(&mut answer[2 * LIMIT..3 * LIMIT], n, partners);
-    equations(&mut answer[3 * LIMIT..4 * LIMIT], n, order);
+    numbers(
+        &mut answer[2 * LIMIT..3 * LIMIT],
+        n,
+        Unknown::numbers(partners),
+    );
+    numbers(
+        &mut answer[3 * LIMIT..4 * LIMIT],
+        n,
+        Equation::numbers(order),
+    );
     numbers(&mut answer[4 * LIMIT..5 * LIMIT], n, block);
 }
 
 // The number and the strips of a solvable model.
 pub fn solvable(rows: &[[u8; LIMIT]; LIMIT], n: usize, answer: &mut [u8]) -> u64
-    requires { ⌜ Ready n (now rows) × (answerBytes ≤ length (now answer)) ⌝ }
+    requires { ⌜ Pairable n (now rows) × (answerBytes ≤ length (now answer)) ⌝ }
     ensures { λ r. ⌜ Solved n (occursAt (now (rows .entry))) (orderAt (now (rows .entry))) n (now (answer .entry)) r (now (answer .exit)) ⌝ }
 {
     let solution = solve(rows, n);

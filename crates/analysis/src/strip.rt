@@ -1,7 +1,5 @@
 // The writers of the strips. Each is lent its own stretch of the answer buffer and fills it wholly: what it has, and then unused places.
 use table::LIMIT;
-use table::number::Equation;
-use table::number::Unknown;
 ghost use mathlib.Core.Path.{_≡_};
 ghost use mathlib.Core.List.{[], map};
 ghost use Prim.Native.Nat.{suc, _≤_};
@@ -10,7 +8,6 @@ ghost use Rattle.laws.specs.Marks.{marked};
 ghost use Rattle.table.specs.Model.{limit};
 ghost use Rattle.pairing.specs.Members.{members};
 ghost use Rattle.analysis.specs.Outcome.{strip};
-ghost use Rattle.analysis.specs.Written.{unknownNumber, equationNumber};
 
 // What an unused place of a strip holds.
 const UNUSED: u8 = 255;
@@ -27,7 +24,7 @@ pub fn unused(stretch: &mut [u8])
     }
 }
 
-// Numbers by place: counts, tops, block numbers.
+// Numbers by place: counts, tops, partners, equations in solving order, block numbers.
 pub fn numbers(stretch: &mut [u8], n: usize, numbers: [u8; LIMIT])
     requires { ⌜ (length (now stretch) ≡ limit) × (n ≤ limit) ⌝ }
     ensures { λ r. ⌜ now (stretch .exit) ≡ strip (take n numbers) ⌝ }
@@ -36,34 +33,6 @@ pub fn numbers(stretch: &mut [u8], n: usize, numbers: [u8; LIMIT])
     let mut i = 0;
     while i < n {
         stretch[i] = numbers[i];
-        i += 1;
-    }
-}
-
-// The partner of each equation.
-pub fn unknowns(stretch: &mut [u8], n: usize, unknowns: [Unknown; LIMIT])
-    requires { ⌜ (length (now stretch) ≡ limit) × (n ≤ limit) ⌝ }
-    ensures { λ r. ⌜ now (stretch .exit) ≡ strip (take n (map unknownNumber unknowns)) ⌝ }
-{
-    unused(&mut *stretch);
-    let mut i = 0;
-    while i < n {
-        let unknown = unknowns[i];
-        stretch[i] = unknown.0;
-        i += 1;
-    }
-}
-
-// The equations in solving order.
-pub fn equations(stretch: &mut [u8], n: usize, equations: [Equation; LIMIT])
-    requires { ⌜ (length (now stretch) ≡ limit) × (n ≤ limit) ⌝ }
-    ensures { λ r. ⌜ now (stretch .exit) ≡ strip (take n (map equationNumber equations)) ⌝ }
-{
-    unused(&mut *stretch);
-    let mut i = 0;
-    while i < n {
-        let equation = equations[i];
-        stretch[i] = equation.0;
         i += 1;
     }
 }

@@ -9,9 +9,8 @@ ghost use mathlib.Core.Bool.{_&&_};
 ghost use Prim.Native.Nat.{_≤_};
 ghost use lib.Dec.{eqb};
 ghost use lib.ListN.{length};
-ghost use Rattle.table.specs.Model.{occursAt, orderAt};
+ghost use Rattle.table.specs.Model.{occursAt, orderAt, Bounded};
 ghost use Rattle.analysis.specs.Outcome.{answerBytes, Verdict};
-ghost use Rattle.analysis.specs.Written.{Judged};
 
 // Solvable means E = U = rank.
 fn all_paired(equations: usize, unknowns: usize, rank: u8) -> bool
@@ -31,7 +30,7 @@ pub fn verdict(
     unknowns: usize,
     answer: &mut [u8],
 ) -> u64
-    requires { ⌜ Judged equations unknowns (now rows) × (answerBytes ≤ length (now answer)) ⌝ }
+    requires { ⌜ Bounded equations unknowns (now rows) × (answerBytes ≤ length (now answer)) ⌝ }
     ensures { λ r. ⌜ Verdict equations unknowns (occursAt (now (rows .entry))) (orderAt (now (rows .entry))) (now (answer .entry)) r (now (answer .exit)) ⌝ }
 {
     let left = left_over(rows, equations, unknowns);

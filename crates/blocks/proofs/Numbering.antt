@@ -9,7 +9,7 @@ use native.Mathlib.Omega.{arith}
 use lib.Dec.{ltb, leb, eqb}
 use borrow.Author.Tests.{eqb-true, eq-eqb, ne-eqb}
 use Rattle.laws.specs.Count.{bit, count, any}
-use Rattle.laws.specs.Tab.{tab}
+use Rattle.laws.specs.Tab.{tab, numberAt}
 use Rattle.laws.proofs.Tests.{test, tests, given, clash, true≢false, not-true, and-left, and-right, and-both}
 use Rattle.laws.proofs.Search.{any-here, any-where, any-none}
 use Rattle.laws.proofs.Sum.{bit-true, bit-false, sum-bound}
@@ -19,8 +19,8 @@ use Rattle.table.specs.Model.{limit}
 use Rattle.pairing.specs.Pairing.{Rel}
 use Rattle.blocks.specs.Blocks.{Shares}
 use Rattle.blocks.specs.Blocks.Reaches.{here, step}
-use Rattle.blocks.specs.Handed.{at, Within, Closed}
-use Rattle.blocks.specs.Steps.{ways, both, keepsAt, waitsAt, Lowest, renumbered, Numbering, Numbered}
+use Rattle.blocks.specs.Handed.{Within, Closed}
+use Rattle.blocks.specs.Steps.{ways, both, keepsAt, waitsAt, Lowest, renumbered, Numbering, AllNumbered}
 use Rattle.blocks.proofs.Ways.{onward, ways-closed, ways-sound, ways-complete}
 
 not-so : (b : Bool) → not b ≡ true → b ≡ false
@@ -290,17 +290,17 @@ counting-start {m} {num = num} none L =
 
 module _ {m : ℕ} {T : Rel} (C : Closed m T) (few : m ≤ limit) {num : ℕ → ℕ} {k e : ℕ} (S : Counting m T num k e) (h : e < m)
     {l : List ℕ} (is : l ≡ tab limit (renumbered T num e (k + 1))) where
-  each : (f : ℕ) → f < m → at l f ≡ renumbered T num e (suc k) f
+  each : (f : ℕ) → f < m → numberAt l f ≡ renumbered T num e (suc k) f
   each f b = rw (is, add-one k) (getD-tab limit (renumbered T num e (suc k)) f 0 (omega arith))
 
-  pub counting-falls : unplaced m (at l) < unplaced m num
+  pub counting-falls : unplaced m (numberAt l) < unplaced m num
   counting-falls = numbering-falls C (S .numbering) h (S .lowest) each
 
-  pub counting-step : {e′ : ℕ} → Lowest m T (at l) e′ → Counting m T (at l) (k + 1) e′
+  pub counting-step : {e′ : ℕ} → Lowest m T (numberAt l) e′ → Counting m T (numberAt l) (k + 1) e′
   counting-step L =
       let r = S .room in
       let d = counting-falls in
       record { numbering = rw (add-one k) (numbering-step C (S .numbering) h (S .lowest) each); lowest = L; room = omega arith }
 
-pub counting-end : {m : ℕ} {T : Rel} {num : ℕ → ℕ} {k e : ℕ} → Closed m T → Counting m T num k e → m ≤ e → Numbered m T num k
+pub counting-end : {m : ℕ} {T : Rel} {num : ℕ → ℕ} {k e : ℕ} → Closed m T → Counting m T num k e → m ≤ e → AllNumbered m T num k
 counting-end {num = num} C S l = record { numbering = S .numbering; all = all-stand C num (λ f h. S .lowest .none f (omega arith)) }

@@ -2,7 +2,7 @@
 use mathlib.Core.Path.{_≡_, refl, sym, _∙_}
 use mathlib.Core.Bool.{not, _&&_}
 use mathlib.Core.List.{List, []}
-use Prim.Native.Nat.{ℕ, zero, suc, _+_, _<_, _≤_}
+use Prim.Native.Nat.{ℕ, _+_, _<_, _≤_}
 use native.Mathlib.Omega.{arith}
 use lib.Dec.{ltb, eqb}
 use lib.ListN.{length, getD, set, replicate, length-set}
@@ -17,12 +17,6 @@ use Rattle.table.proofs.Model.{square-at}
 use Rattle.pairing.specs.Pairing.{Rel}
 use Rattle.blocks.specs.Blocks.{needsAt}
 use Rattle.blocks.specs.Steps.{atOnce, either, throughAt, throughCode}
-
--- a list of one value alone has it at each place, and beyond
-pub always : {A : Type 0} (n i : ℕ) (a : A) → getD (replicate n a) i a ≡ a
-always zero i a = refl
-always (suc n) zero a = refl
-always (suc n) (suc i) a = always n i a
 
 -- a loop that fills one place after another: a turn, and the end
 pub fill-next : {A : Type 0} (n i : ℕ) (f g : ℕ → A) (l : List A) (v : A) → l ≡ tab n (upto i f g) → v ≡ f i → i < n

@@ -3,18 +3,15 @@ use mathlib.Core.Path.{_≡_}
 use mathlib.Core.Bool.{true}
 use mathlib.Core.List.{List}
 use Prim.Native.Nat.{ℕ, _-_, _<_, _≤_}
-use lib.ListN.{getD}
 use Rattle.laws.specs.Count.{bit}
+use Rattle.laws.specs.Tab.{numberAt}
 use Rattle.table.specs.Model.{limit, Numbered, occursAt, square}
+use Rattle.table.specs.Number.{equationAt}
 use Rattle.table.specs.declared.number.Equation.{Equation}
 use Rattle.table.specs.declared.number.Unknown.{Unknown}
 use Rattle.pairing.specs.Pairing.{Rel}
 use Rattle.pairing.specs.First.{partnerOf}
 use Rattle.blocks.specs.Blocks.{Reaches, Placed}
-
--- what stands at a place, and 0 beyond
-abbrev pub at : List ℕ → ℕ → ℕ
-at l i = getD l i 0
 
 -- the place of the partner of the equation at place e
 abbrev pub partnerAt : List Unknown → ℕ → ℕ
@@ -48,13 +45,9 @@ pub record ReachTable (m : ℕ) (needs : Rel) (t : List (List ℕ)) : Type 0 whe
   pub only : (e f : ℕ) → occursAt t e f ≡ true → Reaches needs e f
   pub all : (e f : ℕ) → e < m → f < m → Reaches needs e f → occursAt t e f ≡ true
 
--- the number of the equation at place i of the solving order
-abbrev pub equationNumber : List Equation → ℕ → ℕ
-equationNumber o i = getD o i (record { 0 = 0 }) .0
-
 -- the placing as it is handed back: equation numbers in solving order, block numbers, and 0 beyond the last equation
-pub record Solved (m : ℕ) (needs : Rel) (order : List Equation) (block : List ℕ) (blocks : ℕ) : Type 0 where
-  pub placed : Placed m needs (λ i. equationNumber order i - 1) (at block) blocks
-  pub numbers : (i : ℕ) → i < m → 1 ≤ equationNumber order i
-  pub no-equation : (i : ℕ) → m ≤ i → equationNumber order i ≡ 0
-  pub no-block : (i : ℕ) → m ≤ i → at block i ≡ 0
+pub record PlacingIs (m : ℕ) (needs : Rel) (order : List Equation) (block : List ℕ) (blocks : ℕ) : Type 0 where
+  pub placed : Placed m needs (λ i. equationAt order i - 1) (numberAt block) blocks
+  pub numbers : (i : ℕ) → i < m → 1 ≤ equationAt order i
+  pub no-equation : (i : ℕ) → m ≤ i → equationAt order i ≡ 0
+  pub no-block : (i : ℕ) → m ≤ i → numberAt block i ≡ 0

@@ -5,11 +5,11 @@ use mathlib.Core.List.{List}
 use Prim.Native.Nat.{ℕ, zero, suc, _+_, _<_, _≤_}
 use lib.Dec.{ltb, eqb}
 use Rattle.laws.specs.Count.{count, any}
-use Rattle.laws.specs.Tab.{pick}
+use Rattle.laws.specs.Tab.{pick, numberAt}
 use Rattle.table.specs.Model.{codeAt}
 use Rattle.table.specs.declared.number.Equation.{Equation}
 use Rattle.pairing.specs.Pairing.{Rel}
-use Rattle.blocks.specs.Handed.{at, equationNumber}
+use Rattle.table.specs.Number.{equationAt}
 
 -- what is reached by no need or by one
 abbrev pub atOnce : ℕ → Rel → Rel
@@ -56,11 +56,11 @@ abbrev pub placeOf : ℕ → (ℕ → ℕ) → ℕ → ℕ
 placeOf m num e = count m (λ f. earlierAt num f e)
 
 -- the equations below e stand at their places, with their numbers, and beyond the last equation there is nothing
-pub record Listed (m : ℕ) (num : ℕ → ℕ) (order : List Equation) (block : List ℕ) (e : ℕ) : Type 0 where
-  pub equation : (f : ℕ) → f < e → equationNumber order (placeOf m num f) ≡ f + 1
-  pub number : (f : ℕ) → f < e → at block (placeOf m num f) ≡ num f
-  pub no-equation : (i : ℕ) → m ≤ i → equationNumber order i ≡ 0
-  pub no-block : (i : ℕ) → m ≤ i → at block i ≡ 0
+pub record Standing (m : ℕ) (num : ℕ → ℕ) (order : List Equation) (block : List ℕ) (e : ℕ) : Type 0 where
+  pub equation : (f : ℕ) → f < e → equationAt order (placeOf m num f) ≡ f + 1
+  pub number : (f : ℕ) → f < e → numberAt block (placeOf m num f) ≡ num f
+  pub no-equation : (i : ℕ) → m ≤ i → equationAt order i ≡ 0
+  pub no-block : (i : ℕ) → m ≤ i → numberAt block i ≡ 0
 
 -- numbers 1 to k given so far, as the plain statement has it, by equations instead of places
 pub record Numbering (m : ℕ) (T : Rel) (num : ℕ → ℕ) (k : ℕ) : Type 0 where
@@ -74,7 +74,7 @@ pub record Numbering (m : ℕ) (T : Rel) (num : ℕ → ℕ) (k : ℕ) : Type 0 
       → (h : ℕ) × (h < m) × (num h ≡ num e) × (h ≤ f)
 
 -- the same when all equations stand
-pub record Numbered (m : ℕ) (T : Rel) (num : ℕ → ℕ) (k : ℕ) : Type 0 where
+pub record AllNumbered (m : ℕ) (T : Rel) (num : ℕ → ℕ) (k : ℕ) : Type 0 where
   pub numbering : Numbering m T num k
   pub all : (e : ℕ) → e < m → 1 ≤ num e
 

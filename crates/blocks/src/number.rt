@@ -2,10 +2,10 @@
 use table::LIMIT;
 ghost use mathlib.Core.Path.{_≡_};
 ghost use Prim.Native.Nat.{_<_, _≤_};
-ghost use Rattle.laws.specs.Tab.{tab};
+ghost use Rattle.laws.specs.Tab.{tab, numberAt};
 ghost use Rattle.table.specs.Model.{limit, occursAt};
-ghost use Rattle.blocks.specs.Handed.{at, Closed};
-ghost use Rattle.blocks.specs.Steps.{both, keepsAt, waitsAt, Lowest, renumbered, Numbered};
+ghost use Rattle.blocks.specs.Handed.{Closed};
+ghost use Rattle.blocks.specs.Steps.{both, keepsAt, waitsAt, Lowest, renumbered, AllNumbered};
 
 // For each equation the number of its block, and how many blocks there are.
 pub struct BlockNumbers {
@@ -27,7 +27,7 @@ fn share(reach: &[[u8; LIMIT]; LIMIT], e: usize, f: usize) -> bool
 // The equation at place g keeps that at place e waiting: it stands in another block, which e's block needs and which does not stand yet.
 fn keeps(reach: &[[u8; LIMIT]; LIMIT], number: &[u8; LIMIT], e: usize, g: usize) -> bool
     requires { ⌜ (e < limit) × (g < limit) ⌝ }
-    ensures { λ r. ⌜ r ≡ keepsAt (occursAt (now (reach .entry))) (at (now (number .entry))) e g ⌝ }
+    ensures { λ r. ⌜ r ≡ keepsAt (occursAt (now (reach .entry))) (numberAt (now (number .entry))) e g ⌝ }
 {
     if reach[e][g] == 0 {
         return false;
@@ -41,7 +41,7 @@ fn keeps(reach: &[[u8; LIMIT]; LIMIT], number: &[u8; LIMIT], e: usize, g: usize)
 // The block of the equation at place e does not stand yet and is ready.
 fn waits(reach: &[[u8; LIMIT]; LIMIT], equations: usize, number: &[u8; LIMIT], e: usize) -> bool
     requires { ⌜ (equations ≤ limit) × (e < limit) ⌝ }
-    ensures { λ r. ⌜ r ≡ waitsAt equations (occursAt (now (reach .entry))) (at (now (number .entry))) e ⌝ }
+    ensures { λ r. ⌜ r ≡ waitsAt equations (occursAt (now (reach .entry))) (numberAt (now (number .entry))) e ⌝ }
 {
     if number[e] != 0 {
         return false;
@@ -59,7 +59,7 @@ fn waits(reach: &[[u8; LIMIT]; LIMIT], equations: usize, number: &[u8; LIMIT], e
 // The place of the lowest equation whose block is ready, or the number of equations where none is.
 fn lowest(reach: &[[u8; LIMIT]; LIMIT], equations: usize, number: &[u8; LIMIT]) -> usize
     requires { ⌜ equations ≤ limit ⌝ }
-    ensures { λ r. ⌜ Lowest equations (occursAt (now (reach .entry))) (at (now (number .entry))) r ⌝ }
+    ensures { λ r. ⌜ Lowest equations (occursAt (now (reach .entry))) (numberAt (now (number .entry))) r ⌝ }
 {
     let mut best = equations;
     let mut e = 0;
@@ -77,7 +77,7 @@ fn lowest(reach: &[[u8; LIMIT]; LIMIT], equations: usize, number: &[u8; LIMIT]) 
 // The number that the equation at place f has when the block of that at place e gets number k.
 fn numbered(reach: &[[u8; LIMIT]; LIMIT], number: &[u8; LIMIT], e: usize, k: u8, f: usize) -> u8
     requires { ⌜ (e < limit) × (f < limit) ⌝ }
-    ensures { λ r. ⌜ r ≡ renumbered (occursAt (now (reach .entry))) (at (now (number .entry))) e k f ⌝ }
+    ensures { λ r. ⌜ r ≡ renumbered (occursAt (now (reach .entry))) (numberAt (now (number .entry))) e k f ⌝ }
 {
     if share(reach, e, f) { k } else { number[f] }
 }
@@ -85,7 +85,7 @@ fn numbered(reach: &[[u8; LIMIT]; LIMIT], number: &[u8; LIMIT], e: usize, k: u8,
 // The numbers when the block of the equation at place e gets number k.
 fn renumber(reach: &[[u8; LIMIT]; LIMIT], number: &[u8; LIMIT], e: usize, k: u8) -> [u8; LIMIT]
     requires { ⌜ e < limit ⌝ }
-    ensures { λ r. ⌜ r ≡ tab limit (renumbered (occursAt (now (reach .entry))) (at (now (number .entry))) e k) ⌝ }
+    ensures { λ r. ⌜ r ≡ tab limit (renumbered (occursAt (now (reach .entry))) (numberAt (now (number .entry))) e k) ⌝ }
 {
     let mut next = [0u8; LIMIT];
     let mut f = 0;
@@ -99,7 +99,7 @@ fn renumber(reach: &[[u8; LIMIT]; LIMIT], number: &[u8; LIMIT], e: usize, k: u8)
 // All blocks get their numbers, from 1.
 pub fn numbers(reach: &[[u8; LIMIT]; LIMIT], equations: usize) -> BlockNumbers
     requires { ⌜ (equations ≤ limit) × Closed equations (occursAt (now reach)) ⌝ }
-    ensures { λ r. ⌜ Numbered equations (occursAt (now (reach .entry))) (at (r .number)) (r .blocks) ⌝ }
+    ensures { λ r. ⌜ AllNumbered equations (occursAt (now (reach .entry))) (numberAt (r .number)) (r .blocks) ⌝ }
 {
     let mut number = [0u8; LIMIT];
     let mut blocks = 0u8;

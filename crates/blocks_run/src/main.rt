@@ -16,7 +16,7 @@ use table::rows::filled;
 ghost use mathlib.Core.Path.{_≡_};
 ghost use Prim.Native.Nat.{_≤_};
 ghost use Rattle.table.specs.Model.{limit};
-ghost use Rattle.counts.specs.Work.{Ready};
+ghost use Rattle.counts.specs.Work.{Pairable};
 
 fn print(text: &[u8]) {
     io::write_all(STDOUT_FILENO, text);
@@ -72,7 +72,7 @@ fn print_blocks(placing: Placing, n: usize)
 
 // A solvable model.
 fn print_answer(n: usize, table: &[[u8; LIMIT]; LIMIT])
-    requires { ⌜ Ready n (now table) ⌝ }
+    requires { ⌜ Pairable n (now table) ⌝ }
 {
     let choice = least(table, n);
     let counts = choice.counts;

@@ -15,7 +15,8 @@ use Rattle.table.specs.declared.number.Equation.{Equation}
 use Rattle.pairing.specs.Pairing.{Full}
 use Rattle.pairing.specs.Holders.{held}
 use Rattle.counts.specs.Fit.{indexOf, freedomOf}
-use Rattle.counts.specs.Work.{numberAt, topOrder, leadingRows, Small, Ready, Chosen}
+use Rattle.counts.specs.Work.{topOrder, leadingRows, Small, Pairable, Chosen}
+use Rattle.laws.specs.Tab.{numberAt}
 use Rattle.counts.proofs.Over.{over-full}
 use Rattle.counts.proofs.Fit.{one-count, one-top, freedom-low, freedom-high}
 use Rattle.counts.proofs.Gap.{count-bound, index-bound, top-bound}
@@ -33,37 +34,36 @@ module _ (n : ℕ) (t : List (List ℕ)) (c d c′ d′ : List ℕ) (h h′ : Li
       (λ k. one-top n (occursAt t) (orderAt t) (numberAt c) (numberAt d) (numberAt c′) (numberAt d′) (a .least) (a′ .least) u (ltb-true u n k))
       (λ k. let x = a .topsBeyond u (ltb-false u n k) in let y = a′ .topsBeyond u (ltb-false u n k) in omega arith))
 
-module _ (n : ℕ) (t : List (List ℕ)) (ready : Ready n t) (c d : List ℕ) (h : List Equation) (a : Chosen n t c d h) where
+module _ (n : ℕ) (t : List (List ℕ)) (can : Pairable n t) (c d : List ℕ) (h : List Equation) (a : Chosen n t c d h) where
   pub counts-bound : (e : ℕ) → e < n → numberAt c e ≤ (n - 1) * topOrder
-  counts-bound = count-bound n n topOrder (occursAt t) (orderAt t) (orders n t ready) (numberAt c) (numberAt d) (a .least)
+  counts-bound = count-bound n n topOrder (occursAt t) (orderAt t) (orders n t can) (numberAt c) (numberAt d) (a .least)
 
   pub tops-bound : (u : ℕ) → u < n → numberAt d u ≤ limit * topOrder
   tops-bound u b =
-      let k = top-bound n topOrder (occursAt t) (orderAt t) (orders n t ready) (numberAt c) (numberAt d) (a .least) u b in
-      let w = ready .within in
+      let k = top-bound n topOrder (occursAt t) (orderAt t) (orders n t can) (numberAt c) (numberAt d) (a .least) u b in
+      let w = can .bounded .equations in
       omega arith
 
   pub index-fits : indexOf n (numberAt c) ≤ (n - 1) * topOrder
-  index-fits = index-bound n n topOrder (occursAt t) (orderAt t) (orders n t ready) (numberAt c) (numberAt d) (a .least)
+  index-fits = index-bound n n topOrder (occursAt t) (orderAt t) (orders n t can) (numberAt c) (numberAt d) (a .least)
 
   pub freedom-fits : freedomOf n n (numberAt c) (numberAt d) ≤ n * topOrder
-  freedom-fits = freedom-high n topOrder (occursAt t) (orderAt t) (numberAt c) (numberAt d) (a .least .fit) (orders n t ready)
+  freedom-fits = freedom-high n topOrder (occursAt t) (orderAt t) (numberAt c) (numberAt d) (a .least .fit) (orders n t can)
 
   -- what `freedom` asks for
   pub freedom-asks : (n ≤ limit) × (sum n (numberAt c) ≤ sum n (numberAt d)) × (freedomOf n n (numberAt c) (numberAt d) ≤ 255)
   freedom-asks =
-      let w = ready .within in
+      let w = can .bounded .equations in
       let f = freedom-fits in
       (w, freedom-low n n (occursAt t) (orderAt t) (numberAt c) (numberAt d) (a .least .fit), omega arith)
 
   -- what `leading_rows` asks for
   pub chosen-small : Small n t c
   chosen-small = record {
-    within = ready .within;
-    codes = ready .codes;
-    few = λ e b. let k = counts-bound e b in let w = ready .within in omega arith;
+    bounded = can .bounded;
+    few = λ e b. let k = counts-bound e b in let w = can .bounded .equations in omega arith;
   }
 
   pub chosen-full : Full n n (occursAt (leadingRows n t c d)) (held h)
   chosen-full = over-full (a .paired)
-      (λ e u m. let ok = a .paired .ok in rows-lead n t c d (ready .within) e u (ok .row e u m) (ok .col e u m) ∙ ok .fits e u m)
+      (λ e u m. let ok = a .paired .ok in rows-lead n t c d (can .bounded .equations) e u (ok .row e u m) (ok .col e u m) ∙ ok .fits e u m)

@@ -1,6 +1,6 @@
 -- The equations are paired in turn over one relation: what each search that found keeps, and where one that found nothing stops.
 use mathlib.Core.Path.{_≡_}
-use mathlib.Core.Bool.{Bool, false}
+use mathlib.Core.Bool.{Bool, true, false}
 use mathlib.Core.List.{List}
 use Prim.Native.Nat.{ℕ, _+_, _<_, _≤_}
 use native.Mathlib.Omega.{arith}
@@ -13,7 +13,16 @@ use Rattle.table.specs.Model.{limit}
 use Rattle.table.specs.declared.number.Equation.{Equation}
 use Rattle.pairing.specs.Pairing.{Rel}
 use Rattle.pairing.specs.Holders.{held, Asking, Found, Nothing}
-use Rattle.counts.specs.Placing.{Paired, Went}
+use Rattle.counts.specs.Kept.{Paired, Went}
+use Rattle.counts.proofs.Over.{over-pairs}
+
+-- the same pairs over another relation that holds at them
+pub over-paired : {n f : ℕ} {A B M : Rel} → Paired n A f M → ((e u : ℕ) → e < n → u < n → A e u ≡ true → B e u ≡ true) → Paired n B f M
+over-paired p to = record {
+  pairs = over-pairs (omega arith) (p .pairs) (λ e u m. to e u (p .pairs .row e u m) (p .pairs .col e u m) (p .pairs .fits e u m));
+  placed = p .placed;
+  waiting = p .waiting;
+}
 
 module _ {n : ℕ} {edge : Rel} {f : ℕ} {h : List Equation} (p : Paired n edge f (held h)) where
   -- the next equation may search

@@ -19,7 +19,7 @@ use Rattle.counts.proofs.Over.{over-pairs}
 use Rattle.counts.proofs.High.{high-over, high-most}
 
 -- a search from f over the leading occurrences found nothing: who was asked
-pub record Stuck (m n : ℕ) (lead M : Rel) (f : ℕ) (C : ℕ → Bool) : Type 0 where
+pub record AskedInVain (m n : ℕ) (lead M : Rel) (f : ℕ) (C : ℕ → Bool) : Type 0 where
   pub asker : f < m
   pub free : LeftOver M f
   pub self : C f ≡ true
@@ -37,12 +37,12 @@ taken m M C u = any m (λ g. C g && M g u)
 pub bit-most : (b : Bool) → bit b ≤ 1
 bit-most b = test b (λ t. rw t (omega arith)) (λ t. rw t (omega arith))
 
-reach-asked : {m n : ℕ} {lead M : Rel} {f e : ℕ} {C : ℕ → Bool} → Pairing m n lead M → Stuck m n lead M f C → Reach lead M f e → C e ≡ true
+reach-asked : {m n : ℕ} {lead M : Rel} {f e : ℕ} {C : ℕ → Bool} → Pairing m n lead M → AskedInVain m n lead M f C → Reach lead M f e → C e ≡ true
 reach-asked ok s start = s .self
 reach-asked {e} ok s (step {a} u r l p) = given (s .closed a u (reach-asked ok s r) (ok .col e u p) l) (λ (g, q, h). rw (ok .oneE e g u p h) q)
 
 module _ (m n : ℕ) (edge : Rel) (ord : ℕ → ℕ → ℕ) (c : ℕ → ℕ) (M : Rel) (f : ℕ) (C : ℕ → Bool)
-    (ok : Pairing m n (leading edge ord c (high m edge ord c)) M) (s : Stuck m n (leading edge ord c (high m edge ord c)) M f C) where
+    (ok : Pairing m n (leading edge ord c (high m edge ord c)) M) (s : AskedInVain m n (leading edge ord c (high m edge ord c)) M f C) where
   abbrev lead : Rel
   lead = leading edge ord c (high m edge ord c)
 

@@ -10,7 +10,7 @@ use lib.ListN.{replicate}
 use borrow.Author.Tests.{lt-ltb, le-ltb, ltb-true, ltb-false, eqb-true}
 use Rattle.laws.specs.Count.{bit, sum}
 use Rattle.laws.specs.Marks.{marked}
-use Rattle.laws.specs.Tab.{tab, pick}
+use Rattle.laws.specs.Tab.{tab, pick, numberAt}
 use Rattle.laws.proofs.Tests.{test, either, given, clash, tests, not-true, and-left, and-right}
 use Rattle.laws.proofs.Sum.{bit-false}
 use Rattle.laws.proofs.Tab.{getD-tab, getD-past, copies-at}
@@ -21,11 +21,12 @@ use Rattle.pairing.specs.Pairing.{Rel}
 use Rattle.pairing.specs.Holders.{holder, held, Reach, Nothing}
 use Rattle.pairing.proofs.Hall.{reach-within}
 use Rattle.counts.specs.Fit.{leading}
-use Rattle.counts.specs.Work.{numberAt, topOrder, highAt, topsOf, leadingAt, leadingRows, Small, Ready, Chosen}
-use Rattle.counts.specs.Placing.{PlacedIn, Paired, raisedBy}
-use Rattle.counts.proofs.Over.{over-pairs, over-reach}
-use Rattle.counts.proofs.Raising.{Stuck, raised}
-use Rattle.counts.proofs.Placed.{begin, count-few, raise, nearer, least, paired}
+use Rattle.counts.specs.Work.{topOrder, highAt, topsOf, leadingAt, leadingRows, Small, Pairable, Chosen}
+use Rattle.counts.specs.Kept.{KeptIn, Paired, raisedBy}
+use Rattle.counts.proofs.Over.{over-reach}
+use Rattle.counts.proofs.Pairs.{over-paired}
+use Rattle.counts.proofs.Raising.{AskedInVain, raised}
+use Rattle.counts.proofs.Kept.{begin, count-few, raise, nearer, least, paired}
 
 -- beyond the rows and columns of a square nothing occurs
 square-in : (f : ℕ → ℕ → ℕ) (e u : ℕ) → occursAt (square f) e u ≡ true → (e < limit) × (u < limit)
@@ -83,45 +84,34 @@ module _ (n : ℕ) (t : List (List ℕ)) (counts : List ℕ) (small : n ≤ limi
   to-lead e u o = given (rows-within n t counts (topsOf n t counts) small e u o) (λ (h, k). sym (same e u h k) ∙ o)
 
   -- a search that found nothing
-  pub stuck : (f : ℕ) (holders : List Equation) (asked : List Bool) → f < n → PlacedIn n t f counts holders
-      → Nothing n (rowsOf n t counts) f (replicate limit false) asked holders → Stuck n n (leadOf n t counts) (held holders) f (marked asked)
+  pub stuck : (f : ℕ) (holders : List Equation) (asked : List Bool) → f < n → KeptIn n t f counts holders
+      → Nothing n (rowsOf n t counts) f (replicate limit false) asked holders → AskedInVain n n (leadOf n t counts) (held holders) f (marked asked)
   stuck f holders asked b p none = record {
     asker = b;
-    free = p .waiting f (omega arith);
+    free = p .upto .waiting f (omega arith);
     self = none .self;
     reached = reached;
     closed = λ e u m h l. none .closed e u m (λ before. clash before (copies-at limit false e)) h
-        (same e u (reach-within (p .pairs) b (reached e m)) h ∙ l);
+        (same e u (reach-within (p .upto .pairs) b (reached e m)) h ∙ l);
   }
     where
       reached : (e : ℕ) → marked asked e ≡ true → Reach (leadOf n t counts) (held holders) f e
       reached e m = either (none .reached e m) (λ before. clash before (copies-at limit false e)) (λ r. over-reach to-lead r)
 
-  -- what is kept, over the table of leading occurrences, and back
-  pub to-paired : (f : ℕ) (holders : List Equation) → PlacedIn n t f counts holders → Paired n (rowsOf n t counts) f (held holders)
-  to-paired f holders p = record {
-    pairs = over-pairs (omega arith) (p .pairs) (λ e u k. same e u (p .pairs .row e u k) (p .pairs .col e u k) ∙ p .pairs .fits e u k);
-    placed = p .placed;
-    waiting = p .waiting;
-  }
+  -- what is paired, over the table of leading occurrences, and back
+  pub to-paired : (f : ℕ) (holders : List Equation) → KeptIn n t f counts holders → Paired n (rowsOf n t counts) f (held holders)
+  to-paired f holders p = over-paired (p .upto) (λ e u h k l. same e u h k ∙ l)
 
-  pub from-paired : (f f′ : ℕ) (holders holders′ : List Equation) → PlacedIn n t f counts holders → Paired n (rowsOf n t counts) f′ (held holders′)
-      → PlacedIn n t f′ counts holders′
-  from-paired f f′ holders holders′ p q = record {
-    pairs = over-pairs (omega arith) (q .pairs) (λ e u m. to-lead e u (q .pairs .fits e u m));
-    placed = q .placed;
-    waiting = q .waiting;
-    low = p .low;
-    room = p .room;
-    beyond = p .beyond;
-  }
+  pub from-paired : (f f′ : ℕ) (holders holders′ : List Equation) → KeptIn n t f counts holders → Paired n (rowsOf n t counts) f′ (held holders′)
+      → KeptIn n t f′ counts holders′
+  from-paired f f′ holders holders′ p q = record { upto = over-paired q (λ e u h k l. to-lead e u l); low = p .low; room = p .room; beyond = p .beyond }
 
-module _ (n : ℕ) (t : List (List ℕ)) (ready : Ready n t) where
+module _ (n : ℕ) (t : List (List ℕ)) (can : Pairable n t) where
   pub orders : (e u : ℕ) → e < n → u < n → orderAt t e u ≤ topOrder
-  orders e u h k = let c = ready .codes e u h k in omega arith
+  orders e u h k = let c = can .bounded .codes e u h k in omega arith
 
   -- before the first search
-  pub begin-in : PlacedIn n t 0 (replicate limit 0) (replicate limit (record { 0 = 0 }))
+  pub begin-in : KeptIn n t 0 (replicate limit 0) (replicate limit (record { 0 = 0 }))
   begin-in = begin n (occursAt t) (orderAt t) (numberAt (replicate limit 0)) (held (replicate limit (record { 0 = 0 }))) orders (λ e. copies-at {A = ℕ} limit 0 e)
       (λ e u m.
       let z : holder (replicate limit (record { 0 = 0 })) u ≡ 0 = ap (λ (x : Equation). x .0) (copies-at {A = Equation} limit (record { 0 = 0 }) u) in
@@ -129,27 +119,26 @@ module _ (n : ℕ) (t : List (List ℕ)) (ready : Ready n t) where
       omega arith)
 
   -- order + count fits a byte all the way
-  pub small-in : (f : ℕ) (counts : List ℕ) (holders : List Equation) → PlacedIn n t f counts holders → Small n t counts
+  pub small-in : (f : ℕ) (counts : List ℕ) (holders : List Equation) → KeptIn n t f counts holders → Small n t counts
   small-in f counts holders p = record {
-    within = ready .within;
-    codes = ready .codes;
-    few = λ e h. let k = count-few n (occursAt t) (orderAt t) (ready .pairs) (ready .full) f (numberAt counts) (held holders) p e h in
-        let w = ready .within in omega arith;
+    bounded = can .bounded;
+    few = λ e h. let k = count-few n (occursAt t) (orderAt t) (can .pairs) (can .full) f (numberAt counts) (held holders) p e h in
+        let w = can .bounded .equations in omega arith;
   }
 
   -- one raise of the list
-  module _ (f : ℕ) (counts : List ℕ) (holders : List Equation) (asked : List Bool) (b : f < n) (p : PlacedIn n t f counts holders)
+  module _ (f : ℕ) (counts : List ℕ) (holders : List Equation) (asked : List Bool) (b : f < n) (p : KeptIn n t f counts holders)
       (none : Nothing n (rowsOf n t counts) f (replicate limit false) asked holders) where
     raised-list : numberAt (raisedBy n counts asked) ≡ raised (numberAt counts) (marked asked)
     raised-list = fun-ext at-each
       where
         at-each : (e : ℕ) → numberAt (raisedBy n counts asked) e ≡ raised (numberAt counts) (marked asked) e
         at-each e = test (ltb e n)
-            (λ h. let w = ready .within in let k = ltb-true e n h in
+            (λ h. let w = can .bounded .equations in let k = ltb-true e n h in
             getD-tab limit (λ e. pick (ltb e n) (numberAt counts e + bit (marked asked e)) 0) e 0 (omega arith) ∙ rw h)
             (λ h. let k = ltb-false e n h in
-            let s = stuck n t counts (ready .within) f holders asked b p none in
-            let out : marked asked e ≡ false = not-true (λ m. let r = reach-within (p .pairs) b (s .reached e m) in absurd (omega arith)) in
+            let s = stuck n t counts (can .bounded .equations) f holders asked b p none in
+            let out : marked asked e ≡ false = not-true (λ m. let r = reach-within (p .upto .pairs) b (s .reached e m) in absurd (omega arith)) in
             let z = p .beyond e k in
             let o = bit-false out in
             let l = test (ltb e limit)
@@ -157,18 +146,18 @@ module _ (n : ℕ) (t : List (List ℕ)) (ready : Ready n t) where
             (λ w. getD-past limit (λ e. pick (ltb e n) (numberAt counts e + bit (marked asked e)) 0) e 0 (ltb-false e limit w)) in
             omega arith)
 
-    pub raise-in : PlacedIn n t f (raisedBy n counts asked) holders
-    raise-in = rw raised-list (raise n (occursAt t) (orderAt t) (ready .pairs) (ready .full) f (numberAt counts) (held holders) (marked asked) p
-        (stuck n t counts (ready .within) f holders asked b p none))
+    pub raise-in : KeptIn n t f (raisedBy n counts asked) holders
+    raise-in = rw raised-list (raise n (occursAt t) (orderAt t) (can .pairs) (can .full) f (numberAt counts) (held holders) (marked asked) p
+        (stuck n t counts (can .bounded .equations) f holders asked b p none))
 
     pub nearer-in : sum n (highAt n t (raisedBy n counts asked)) - sum n (numberAt (raisedBy n counts asked)) < sum n (highAt n t counts) - sum n (numberAt counts)
-    nearer-in = rw raised-list (nearer n (occursAt t) (orderAt t) (ready .pairs) (ready .full) f (numberAt counts) (held holders) (marked asked) p
-        (stuck n t counts (ready .within) f holders asked b p none))
+    nearer-in = rw raised-list (nearer n (occursAt t) (orderAt t) (can .pairs) (can .full) f (numberAt counts) (held holders) (marked asked) p
+        (stuck n t counts (can .bounded .equations) f holders asked b p none))
 
   -- after the last search
-  pub answer : (counts : List ℕ) (holders : List Equation) → PlacedIn n t n counts holders → Chosen n t counts (topsOf n t counts) holders
+  pub answer : (counts : List ℕ) (holders : List Equation) → KeptIn n t n counts holders → Chosen n t counts (topsOf n t counts) holders
   answer counts holders p =
-      let tops = tops-at n t counts (ready .within) in
+      let tops = tops-at n t counts (can .bounded .equations) in
       record {
         least = least n (occursAt t) (orderAt t) (numberAt counts) (numberAt (topsOf n t counts)) (held holders) p tops;
         paired = paired n (occursAt t) (orderAt t) (numberAt counts) (numberAt (topsOf n t counts)) (held holders) p tops;

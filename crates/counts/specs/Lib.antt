@@ -1,4 +1,4 @@
 -- What the contracts of this crate cite.
 pub mod Fit
 pub mod Work
-pub mod Placing
+pub mod Kept

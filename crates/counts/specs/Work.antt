@@ -4,18 +4,13 @@ use mathlib.Core.Bool.{_&&_}
 use mathlib.Core.List.{List}
 use Prim.Native.Nat.{ℕ, _-_, _*_, _<_, _≤_}
 use lib.Dec.{ltb}
-use lib.ListN.{getD}
 use Rattle.laws.specs.Count.{bit}
-use Rattle.laws.specs.Tab.{tab, pick}
-use Rattle.table.specs.Model.{limit, topCode, codeAt, occursAt, orderAt, square}
+use Rattle.laws.specs.Tab.{tab, pick, numberAt}
+use Rattle.table.specs.Model.{limit, topCode, Bounded, occursAt, orderAt, square}
 use Rattle.table.specs.declared.number.Equation.{Equation}
 use Rattle.pairing.specs.Pairing.{Rel, Full}
 use Rattle.pairing.specs.Holders.{held}
 use Rattle.counts.specs.Fit.{Least, high, leading}
-
--- the number at a place; past the end 0
-abbrev pub numberAt : List ℕ → ℕ → ℕ
-numberAt l i = getD l i 0
 
 -- the largest order there is: the largest code less 1
 abbrev pub topOrder : ℕ
@@ -38,14 +33,12 @@ leadingRows n t counts tops = square (λ e u. bit (ltb e n && (ltb u n && leadin
 
 -- what keeps order + count within a byte
 pub record Small (n : ℕ) (t : List (List ℕ)) (counts : List ℕ) : Type 0 where
-  pub within : n ≤ limit
-  pub codes : (e u : ℕ) → e < n → u < n → codeAt t e u ≤ topCode
+  pub bounded : Bounded n n t
   pub few : (e : ℕ) → e < n → numberAt counts e ≤ limit * topOrder
 
 -- a table of n equations and n unknowns that was judged, and some pairing of all its equations
-pub record Ready (n : ℕ) (t : List (List ℕ)) : Type 0 where
-  pub within : n ≤ limit
-  pub codes : (e u : ℕ) → e < n → u < n → codeAt t e u ≤ topCode
+pub record Pairable (n : ℕ) (t : List (List ℕ)) : Type 0 where
+  pub bounded : Bounded n n t
   pub pairs : Rel
   pub full : Full n n (occursAt t) pairs
 

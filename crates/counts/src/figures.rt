@@ -6,7 +6,7 @@ ghost use Prim.Native.Nat.{_-_, _≤_};
 ghost use Rattle.laws.specs.Count.{sum};
 ghost use Rattle.table.specs.Model.{limit};
 ghost use Rattle.counts.specs.Fit.{indexOf, freedomOf};
-ghost use Rattle.counts.specs.Work.{numberAt};
+ghost use Rattle.laws.specs.Tab.{numberAt};
 
 // Index: the largest count.
 pub fn index(n: usize, counts: &[u8; LIMIT]) -> u8

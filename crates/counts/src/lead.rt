@@ -1,8 +1,7 @@
 // The table of leading occurrences: code 1 where order + count is the unknown's top, 0 elsewhere.
 use table::LIMIT;
 use table::number::Equation;
-use table::number::Unknown;
-use table::rows::code;
+use table::rows::row;
 ghost use mathlib.Core.Path.{_≡_};
 ghost use mathlib.Core.Bool.{not, _&&_};
 ghost use Prim.Native.Nat.{_+_, _-_, _*_, _≤_};
@@ -37,13 +36,14 @@ fn lead_row(
 {
     let at = e.place();
     let count = counts[at];
-    let mut row = [0u8; LIMIT];
+    let codes = row(table, e);
+    let mut leading = [0u8; LIMIT];
     let mut u = 0;
     while u < n {
-        row[u] = leads(code(table, e, Unknown::at(u)), count, tops[u]);
+        leading[u] = leads(codes[u], count, tops[u]);
         u += 1;
     }
-    row
+    leading
 }
 
 // The table of leading occurrences, for the crates that look at those alone.

@@ -11,8 +11,9 @@ ghost use Prim.Native.Nat.{ℕ, _+_, _*_, _<_, _≤_};
 ghost use Rattle.laws.specs.Count.{bit};
 ghost use Rattle.table.specs.Model.{limit, occursAt};
 ghost use Rattle.pairing.specs.Holders.{held};
-ghost use Rattle.counts.specs.Work.{numberAt, topOrder, topsOf, leadingRows, Small, Ready, Chosen};
-ghost use Rattle.counts.specs.Placing.{PlacedIn, Paired, Went, raisedBy};
+ghost use Rattle.counts.specs.Work.{topOrder, topsOf, leadingRows, Small, Pairable, Chosen};
+ghost use Rattle.laws.specs.Tab.{numberAt};
+ghost use Rattle.counts.specs.Kept.{KeptIn, Paired, Went, raisedBy};
 
 // How far the equations are paired in turn, who holds each unknown (an equation's number, or 0), and whom the next equation asked in vain.
 struct Progress {
@@ -98,7 +99,7 @@ fn chosen(
     counts: [u8; LIMIT],
     holders: [Equation; LIMIT],
 ) -> Choice
-    requires { ⌜ Ready n (now table) × PlacedIn n (now table) n counts holders ⌝ }
+    requires { ⌜ Pairable n (now table) × KeptIn n (now table) n counts holders ⌝ }
     ensures { λ r. ⌜ Chosen n (now (table .entry)) (r .counts) (r .tops) (r .holders) ⌝ }
 {
     let tops = tops(table, n, &counts);
@@ -112,7 +113,7 @@ fn chosen(
 // The answer of document 01 for a solvable model of n equations: the fit choice whose every count is no larger than in any other fit choice.
 // Each raise brings the tops' sum nearer to the counts' sum, and it never falls below that.
 pub fn least(table: &[[u8; LIMIT]; LIMIT], n: usize) -> Choice
-    requires { ⌜ Ready n (now table) ⌝ }
+    requires { ⌜ Pairable n (now table) ⌝ }
     ensures { λ r. ⌜ Chosen n (now (table .entry)) (r .counts) (r .tops) (r .holders) ⌝ }
 {
     let mut counts = [0u8; LIMIT];

@@ -13,7 +13,7 @@ use table::rows::filled;
 ghost use mathlib.Core.Path.{_≡_};
 ghost use Prim.Native.Nat.{_≤_};
 ghost use Rattle.table.specs.Model.{limit};
-ghost use Rattle.counts.specs.Work.{Ready};
+ghost use Rattle.counts.specs.Work.{Pairable};
 
 fn wide(x: u8) -> usize
     ensures { λ r. ⌜ r ≡ x ⌝ }
@@ -76,7 +76,7 @@ fn print_figure(label: &[u8], figure: u8) {
 
 // A solvable model.
 fn print_answer(n: usize, table: &[[u8; LIMIT]; LIMIT])
-    requires { ⌜ Ready n (now table) ⌝ }
+    requires { ⌜ Pairable n (now table) ⌝ }
 {
     let choice = least(table, n);
     let counts = choice.counts;

@@ -8,7 +8,7 @@ use lib.Dec.{ltb, eqb}
 use lib.ListN.{length, getD, set, replicate, length-set, List·getD-eq-default}
 use lib.Seq.{ext-getD, getD-set-same, getD-set-other}
 use borrow.Author.Tests.{lt-ltb, le-ltb, eqb-true, eqb-false}
-use Rattle.laws.specs.Tab.{tab, upto}
+use Rattle.laws.specs.Tab.{tab, upto, numberAt}
 use Rattle.laws.proofs.Tests.{test, tests}
 
 module _ {A : Type 0} where
@@ -73,3 +73,7 @@ module _ {A : Type 0} where
 
   pub fill-end : (n : ℕ) (f g : ℕ → A) → tab n (upto n f g) ≡ tab n f
   fill-end n f g = tab-ext n (upto n f g) f (λ i b. upto-below n f g i b)
+
+-- a loop has filled every place with what a list has there
+pub filled-list : (n i : ℕ) (l x : List ℕ) (g : ℕ → ℕ) → length l ≡ n → i ≡ n → x ≡ tab n (upto i (numberAt l) g) → x ≡ l
+filled-list n i l x g e q h = h ∙ (rw q (fill-end n (numberAt l) g)) ∙ sym (is-tab l 0 n (numberAt l) e (λ k b. refl))

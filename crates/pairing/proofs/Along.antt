@@ -11,7 +11,7 @@ use Rattle.laws.proofs.Tests.{test, either, given, clash, not-true, or-cases, o
 use Rattle.pairing.specs.Pairing.{Rel, turn, Largest, LeftOver, Surplus}
 use Rattle.pairing.specs.Holders.{Reach, start, step}
 use Rattle.pairing.proofs.Give.{given-to, given-pairing, given-is}
-use Rattle.pairing.proofs.Sizes.{turned, size-turned, covers, as-large}
+use Rattle.pairing.proofs.Sizes.{pairing-turned, size-turned, covers, as-large}
 
 -- an equation a that Q leaves over takes u from e: each unknown that was held is held, and e is left over
 module _ {m n : ℕ} {edge Q : Rel} (l : Largest m n edge Q) (a u e : ℕ) (inside : a < m) (free : LeftOver Q a) (fits : edge a u ≡ true)
@@ -21,7 +21,7 @@ module _ {m n : ℕ} {edge Q : Rel} (l : Largest m n edge Q) (a u e : ℕ) (insi
       let swap = given-pairing (l .ok) free inside (l .ok .col e u holds) fits (given-is Q a u) in
       let before = size-turned (l .ok) in
       let after = size-turned swap in
-      let held = covers (turn Q) (turned swap) (λ v g t. test (eqb v u)
+      let held = covers (turn Q) (pairing-turned swap) (λ v g t. test (eqb v u)
       (λ i. (a, rw (eqb-true v u i) (given-is Q a u .here))) (λ i. (g, given-is Q a u .other g v (eqb-false v u i) t))) in
       as-large l swap (omega arith)
 

@@ -13,14 +13,14 @@ use Rattle.laws.proofs.Tests.{test, tests, either, given, clash, not-true}
 use Rattle.table.specs.Model.{limit}
 use Rattle.table.specs.declared.number.Equation.{Equation}
 use Rattle.pairing.specs.Pairing.{Rel, Pairing, LeftOver}
-use Rattle.pairing.specs.Holders.{holder, held, Holds, Reach, start, step, Found, Nothing, Asking}
+use Rattle.pairing.specs.Holders.{holder, held, HoldsSome, Reach, start, step, Found, Nothing, Asking}
 use Rattle.pairing.specs.Left.{Certificate}
 
 pub record Pass (m n : ℕ) (edge : Rel) (h : List Equation) (a : List Bool) (i : ℕ) : Type 0 where
   pub ok : Pairing m n edge (held h)
-  pub tried : (e : ℕ) → Holds h e → e < i
+  pub tried : (e : ℕ) → HoldsSome h e → e < i
   pub within : (e : ℕ) → marked a e ≡ true → e < i
-  pub out : (e : ℕ) → e < i → marked a e ≡ false → Holds h e
+  pub out : (e : ℕ) → e < i → marked a e ≡ false → HoldsSome h e
   pub inn : (e u : ℕ) → marked a e ≡ true → u < n → edge e u ≡ true → (g : ℕ) × (marked a g ≡ true) × (held h g u ≡ true)
   pub reached : (e : ℕ) → marked a e ≡ true → (f : ℕ) × (marked a f ≡ true) × LeftOver (held h) f × Reach edge (held h) f e
 

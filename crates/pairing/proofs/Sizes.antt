@@ -13,8 +13,8 @@ use Rattle.laws.proofs.Inject.{count-inject}
 use Rattle.pairing.specs.Pairing.{Rel, turn, Pairing, size, Largest, Rank, Full, LeftOver}
 
 -- equations and unknowns exchanged
-pub turned : {m n : ℕ} {edge M : Rel} → Pairing m n edge M → Pairing n m (turn edge) (turn M)
-turned k = record {
+pub pairing-turned : {m n : ℕ} {edge M : Rel} → Pairing m n edge M → Pairing n m (turn edge) (turn M)
+pairing-turned k = record {
   row = λ u e h. k .col e u h;
   col = λ u e h. k .row e u h;
   fits = λ u e h. k .fits e u h;
@@ -27,13 +27,10 @@ turn-below {m} {n} {edge} {M} k = count-inject n m (λ u. any m (turn M u)) (λ 
     (λ u h t. given (any-where (turn M u) t) (λ (e, b, w). (e, b, w, any-here (M e) u h w)))
 
 pub size-turned : {m n : ℕ} {edge M : Rel} → Pairing m n edge M → size n m (turn M) ≡ size m n M
-size-turned k = le-antisymm (turn-below k) (turn-below (turned k))
+size-turned k = le-antisymm (turn-below k) (turn-below (pairing-turned k))
 
 pub size-rows : (m n : ℕ) (M : Rel) → size m n M ≤ m
 size-rows m n M = count-within m (λ e. any n (M e))
-
-pub size-cols : {m n : ℕ} {edge M : Rel} → Pairing m n edge M → size m n M ≤ n
-size-cols {m} {n} {edge} {M} k = let e = size-turned k in let b = size-rows n m (turn M) in omega arith
 
 -- the equation has a pair, or it is left over
 pub has-pair : {m n : ℕ} {edge M : Rel} → Pairing m n edge M → (e u : ℕ) → M e u ≡ true → any n (M e) ≡ true
@@ -70,12 +67,12 @@ full-largest {m} {n} f = record { ok = f .ok; top = λ Q k. rw (full-size f) (si
 
 -- with as many unknowns as equations it takes in every unknown too
 pub full-turned : {m n : ℕ} {edge M : Rel} → m ≡ n → Full m n edge M → Full n m (turn edge) (turn M)
-full-turned same f = size-full (turned (f .ok)) (size-turned (f .ok) ∙ full-size f ∙ same)
+full-turned same f = size-full (pairing-turned (f .ok)) (size-turned (f .ok) ∙ full-size f ∙ same)
 
 pub largest-turned : {m n : ℕ} {edge M : Rel} → Largest m n edge M → Largest n m (turn edge) (turn M)
 largest-turned {m} {n} {edge} {M} l = record {
-  ok = turned (l .ok);
-  top = λ Q k. let a = l .top (turn Q) (turned k) in let b = size-turned k in let c = size-turned (l .ok) in omega arith;
+  ok = pairing-turned (l .ok);
+  top = λ Q k. let a = l .top (turn Q) (pairing-turned k) in let b = size-turned k in let c = size-turned (l .ok) in omega arith;
 }
 
 -- all largest pairings have one size: there is one rank

@@ -5,7 +5,7 @@ use mathlib.Core.Logic.{_↔_}
 use Prim.Native.Nat.{ℕ, _<_}
 use Rattle.laws.proofs.Tests.{given, not-true}
 use Rattle.pairing.specs.Pairing.{Rel, turn, Rank, Full, Solvable, Surplus, Unfixed}
-use Rattle.pairing.proofs.Sizes.{turned, full-size, size-full, full-largest, full-turned, largest-size, rank-one}
+use Rattle.pairing.proofs.Sizes.{pairing-turned, full-size, size-full, full-largest, full-turned, largest-size, rank-one}
 use Rattle.pairing.specs.Left.{Certificate}
 use Rattle.pairing.proofs.Certificate.{each}
 use Rattle.pairing.proofs.Turn.{rank-turned, unfixed-turned}
@@ -21,7 +21,7 @@ none-surplus r e h s =
 pub solvable-turned : {m n : ℕ} {edge : Rel} → Solvable m n edge → Solvable n m (turn edge)
 solvable-turned s = record {
   pairs = turn (s .pairs);
-  equations = record { ok = turned (s .equations .ok); every = s .unknowns };
+  equations = record { ok = pairing-turned (s .equations .ok); every = s .unknowns };
   unknowns = s .equations .every;
 }
 

@@ -3,7 +3,7 @@ use mathlib.Core.Path.{_≡_}
 use mathlib.Core.Bool.{true}
 use mathlib.Core.List.{List}
 use Prim.Native.Nat.{ℕ, _-_, _<_, _≤_}
-use lib.ListN.{getD}
+use Rattle.table.specs.Number.{unknownAt}
 use Rattle.table.specs.declared.number.Unknown.{Unknown}
 use Rattle.pairing.specs.Pairing.{Rel}
 
@@ -20,7 +20,7 @@ pub record First (m n : ℕ) (edge : Rel) (p : ℕ → ℕ) : Type 0 where
 
 -- the number of equation e's partner, or 0
 abbrev pub partnerOf : List Unknown → ℕ → ℕ
-partnerOf l e = getD l e (record { 0 = 0 }) .0
+partnerOf l e = unknownAt l e
 
 -- the partners of n equations, numbered from 1: those of the first full pairing, and 0 beyond the last equation
 pub record FirstIs (n : ℕ) (edge : Rel) (l : List Unknown) : Type 0 where

@@ -5,23 +5,23 @@ use mathlib.Core.List.{List}
 use mathlib.Core.Logic.{_⊎_}
 use Prim.Native.Nat.{ℕ, suc, _-_, _<_, _≤_}
 use lib.Dec.{eqb}
-use lib.ListN.{getD}
 use Rattle.laws.specs.Marks.{marked}
 use Rattle.table.specs.Model.{limit}
+use Rattle.table.specs.Number.{equationAt}
 use Rattle.table.specs.declared.number.Equation.{Equation}
 use Rattle.pairing.specs.Pairing.{Rel, Pairing, LeftOver}
 
 -- the number of the equation that holds unknown u, or 0
 abbrev pub holder : List Equation → ℕ → ℕ
-holder h u = getD h u (record { 0 = 0 }) .0
+holder h u = equationAt h u
 
 -- equation e holds unknown u
 abbrev pub held : List Equation → Rel
 held h e u = eqb (holder h u) (suc e)
 
 -- equation e holds something
-abbrev pub Holds : List Equation → ℕ → Type 0
-Holds h e = (u : ℕ) × (held h e u ≡ true)
+abbrev pub HoldsSome : List Equation → ℕ → Type 0
+HoldsSome h e = (u : ℕ) × (held h e u ≡ true)
 
 -- e is asked when f searches: f itself, or the holder of an unknown that occurs in one that is asked
 pub data Reach (edge M : Rel) (f : ℕ) : ℕ → Type 0 where
@@ -31,9 +31,9 @@ pub data Reach (edge M : Rel) (f : ℕ) : ℕ → Type 0 where
 -- a search that found: a pairing again, in which f and all who held something hold something, and what those asked before held they hold still
 pub record Found (m n : ℕ) (edge : Rel) (f : ℕ) (asked : List Bool) (before after : List Equation) : Type 0 where
   pub ok : Pairing m n edge (held after)
-  pub gained : Holds after f
-  pub kept : (e : ℕ) → Holds before e → Holds after e
-  pub none-else : (e : ℕ) → Holds after e → (e ≡ f) ⊎ Holds before e
+  pub gained : HoldsSome after f
+  pub kept : (e : ℕ) → HoldsSome before e → HoldsSome after e
+  pub none-else : (e : ℕ) → HoldsSome after e → (e ≡ f) ⊎ HoldsSome before e
   pub untouched : (e u : ℕ) → marked asked e ≡ true → held before e u ≡ true → held after e u ≡ true
 
 -- a search that found nothing: f was asked; whoever was newly asked is reached from f, and all its unknowns are held by equations that were asked

@@ -15,9 +15,9 @@ ghost use Rattle.pairing.specs.Holders.{held};
 ghost use Rattle.pairing.specs.First.{FirstIs};
 ghost use Rattle.pairing.specs.Choosing.{HeldBy, Tried, Settled};
 
-pub struct Attempt {
-    pub done: bool,
-    pub holders: [Equation; LIMIT],
+struct Attempt {
+    done: bool,
+    holders: [Equation; LIMIT],
 }
 
 // The lowest unknown that the equation holds, or 0.

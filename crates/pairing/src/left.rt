@@ -15,10 +15,10 @@ ghost use Rattle.table.specs.Model.{limit, occursAt};
 ghost use Rattle.pairing.specs.Holders.{holder, held};
 ghost use Rattle.pairing.specs.Left.{Certificate, LeftIs};
 
-pub struct Pairs {
-    pub holders: [Equation; LIMIT],
+struct Pairs {
+    holders: [Equation; LIMIT],
     // The equations that some largest pairing leaves over.
-    pub over: [bool; LIMIT],
+    over: [bool; LIMIT],
 }
 
 pub struct Left {

@@ -16,10 +16,11 @@ use Rattle.table.proofs.Model.{sized}
 use Rattle.pairing.specs.Pairing.{Listed}
 use Rattle.pairing.proofs.Sizes.{size-rows}
 use Rattle.counts.specs.Fit.{indexOf, freedomOf}
-use Rattle.counts.specs.Work.{numberAt, topOrder}
+use Rattle.counts.specs.Work.{topOrder}
+use Rattle.laws.specs.Tab.{numberAt}
 use Rattle.counts.proofs.Fit.{freedom-high}
 use Rattle.counts.proofs.Gap.{index-bound}
-use Rattle.counts.proofs.Judged.{judged}
+use Rattle.counts.proofs.Pairable.{judged}
 use Rattle.card.specs.Card as Read
 use Rattle.card.specs.Card.{good}
 use Rattle.card.proofs.Readable.{good-card}

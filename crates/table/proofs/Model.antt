@@ -1,8 +1,8 @@
 -- What the definitions of specs/Model say of numbers.
 use mathlib.Core.Path.{_≡_, _∙_}
 use mathlib.Core.Bool.{true, false}
-use mathlib.Core.List.{List, []}
-use Prim.Native.Nat.{ℕ, suc, _+_, _*_, _≤_, _<_}
+use mathlib.Core.List.{List, [], _∷_}
+use Prim.Native.Nat.{ℕ, zero, suc, _+_, _*_, _≤_, _<_}
 use native.Mathlib.Nat.{suc-mul, mul-le-mul-right}
 use native.Mathlib.Omega.{arith}
 use lib.Dec.{leb, eqb, ltb}
@@ -12,13 +12,9 @@ use borrow.Author.Tests.{lt-ltb, ltb-true, ltb-false}
 use Rattle.laws.specs.Tab.{tab, pick, upto}
 use Rattle.laws.proofs.Tests.{test, tests, and-left, and-right}
 use Rattle.laws.proofs.Tab.{getD-tab, tab-ext, upto-below, upto-from, replicate-tab}
-use Rattle.table.specs.Model.{limit, topCode, countedIn, inLimits, wellSized, firstAbove, codeAt, square, lentCode, rowsOf}
+use Rattle.table.specs.Model.{limit, topCode, countedIn, inLimits, Numbered, wellSized, firstAbove, codeAt, Bounded, square, lentCode, rowsOf}
 
-pub record Counted (n : ℕ) : Type 0 where
-  pub low : 1 ≤ n
-  pub high : n ≤ limit
-
-pub counted : (n : ℕ) → countedIn n ≡ true → Counted n
+pub counted : (n : ℕ) → countedIn n ≡ true → Numbered n
 counted n t =
     let a = and-left (leb 1 n) (leb n limit) t in
     let b = and-right (leb 1 n) (leb n limit) t in
@@ -26,11 +22,11 @@ counted n t =
 
 -- what was judged well sized
 pub record Sized (E U : ℕ) (t : List ℕ) : Type 0 where
-  pub equations : Counted E
-  pub unknowns : Counted U
+  pub equations : Numbered E
+  pub unknowns : Numbered U
   pub bytes : length t ≡ E * U
 
-pub limits : (E U : ℕ) → inLimits E U ≡ true → Counted E × Counted U
+pub limits : (E U : ℕ) → inLimits E U ≡ true → Numbered E × Numbered U
 limits E U t = (counted E (and-left (countedIn E) (countedIn U) t), counted U (and-right (countedIn E) (countedIn U) t))
 
 pub sized : (E U : ℕ) (t : List ℕ) → wellSized E U t ≡ true → Sized E U t
@@ -73,3 +69,26 @@ lent-rows-end E U t = tab-ext limit (upto E (λ e. tab limit (lentCode E U t e))
 -- what stands in a square
 pub square-at : (f : ℕ → ℕ → ℕ) (e u : ℕ) → e < limit → u < limit → codeAt (square f) e u ≡ f e u
 square-at f e u h k = rw (getD-tab limit (λ x. tab limit (f x)) e [] h) (getD-tab limit (f e) u 0 k)
+
+-- the first code above 4 stands within the table, or at its end
+pub above-most : (t : List ℕ) → firstAbove t ≤ length t
+above-most [] = omega arith
+above-most (x ∷ t) = let r = above-most t in test (leb x topCode) (λ a. rw a (omega arith)) (λ a. rw a (omega arith))
+
+-- a table whose bytes were judged, well sized and with no code above 4, has no code above 4 in its rows either
+none-above : (b : List ℕ) → firstAbove b ≡ length b → (i : ℕ) → i < length b → getD b i 0 ≤ topCode
+none-above [] e i h = absurd (omega arith)
+none-above (x ∷ b) e zero h = test (leb x topCode) (λ t. omega (arith, tests)) (λ t. let z = rw t at e in absurd (omega arith))
+none-above (x ∷ b) e (suc i) h = test (leb x topCode)
+    (λ t. let z = rw t at e in none-above b (omega arith) i (omega arith))
+    (λ t. let z = rw t at e in absurd (omega arith))
+
+pub rows-bounded : (E U : ℕ) (b : List ℕ) → wellSized E U b ≡ true → firstAbove b ≡ length b → Bounded E U (rowsOf E U b)
+rows-bounded E U b w f = let s = sized E U b w in record {
+  equations = s .equations .high;
+  unknowns = s .unknowns .high;
+  codes = λ e u h k.
+      let r = row-within E U e h in
+      let i : e * U + u < length b = rw (s .bytes) (omega arith) in
+      rw (square-at (lentCode E U b) e u (omega arith) (omega arith), lt-ltb e E h, lt-ltb u U k) (none-above b f (e * U + u) i);
+}

@@ -1,7 +1,7 @@
 -- Document 01, "The table": limits, codes, the lent table's bytes, the table as rows of codes.
 use mathlib.Core.Bool.{Bool, not, _&&_}
 use mathlib.Core.List.{List, [], _∷_}
-use Prim.Native.Nat.{ℕ, suc, _+_, _-_, _*_, _≤_}
+use Prim.Native.Nat.{ℕ, suc, _+_, _-_, _*_, _<_, _≤_}
 use lib.Dec.{leb, ltb, eqb}
 use lib.ListN.{length, getD}
 use Rattle.laws.specs.Tab.{tab, pick}
@@ -47,6 +47,12 @@ occursAt t e u = not (eqb (codeAt t e u) 0)
 -- the highest derivative's order, code less 1; spoken of only where the unknown occurs
 abbrev pub orderAt : List (List ℕ) → ℕ → ℕ → ℕ
 orderAt t e u = codeAt t e u - 1
+
+-- rows of E equations and U unknowns that were judged: within the limits, and no code above 4
+pub record Bounded (E U : ℕ) (t : List (List ℕ)) : Type 0 where
+  pub equations : E ≤ limit
+  pub unknowns : U ≤ limit
+  pub codes : (e u : ℕ) → e < E → u < U → codeAt t e u ≤ topCode
 
 -- limit rows of limit codes, given by a function of equation place and unknown place
 abbrev pub square : (ℕ → ℕ → ℕ) → List (List ℕ)

@@ -1,8 +1,10 @@
 // Equation numbers and unknown numbers count separately, each from 1, and one is never used for the other.
 use crate::LIMIT;
 ghost use mathlib.Core.Path.{_≡_};
+ghost use mathlib.Core.List.{map};
 ghost use Prim.Native.Nat.{_+_, _-_, _<_, _≤_};
 ghost use Rattle.table.specs.Model.{limit};
+ghost use Rattle.table.specs.Number.{equationNumber, unknownNumber};
 
 pub struct Equation(pub u8);
 
@@ -25,6 +27,20 @@ impl Equation {
         let number = self.0;
         (number - 1) as usize
     }
+
+    // Their numbers alone, for whoever hands them out as bytes.
+    pub fn numbers(equations: [Equation; LIMIT]) -> [u8; LIMIT]
+        ensures { λ r. ⌜ r ≡ map equationNumber equations ⌝ }
+    {
+        let mut numbers = [0u8; LIMIT];
+        let mut i = 0;
+        while i < LIMIT {
+            let equation = equations[i];
+            numbers[i] = equation.0;
+            i += 1;
+        }
+        numbers
+    }
 }
 
 impl Unknown {
@@ -43,5 +59,19 @@ impl Unknown {
     {
         let number = self.0;
         (number - 1) as usize
+    }
+
+    // Their numbers alone, for whoever hands them out as bytes.
+    pub fn numbers(unknowns: [Unknown; LIMIT]) -> [u8; LIMIT]
+        ensures { λ r. ⌜ r ≡ map unknownNumber unknowns ⌝ }
+    {
+        let mut numbers = [0u8; LIMIT];
+        let mut i = 0;
+        while i < LIMIT {
+            let unknown = unknowns[i];
+            numbers[i] = unknown.0;
+            i += 1;
+        }
+        numbers
     }
 }

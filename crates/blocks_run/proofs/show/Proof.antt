@@ -1,7 +1,7 @@
--- `show`: what was judged and has full rank is ready.
+-- `show`: what was judged and has full rank is pairable.
 use mathlib.Core.Path.{_≡_, sym, _∙_}
 use Rattle.table.proofs.Model.{sized}
-use Rattle.counts.proofs.Judged.{ready}
+use Rattle.counts.proofs.Pairable.{pairable}
 use borrow.Author.Needs.{needs}
 use Rattle.blocks_run.proofs.show.Statement.{statement}
 use Rattle.blocks_run.proofs.show.Tie as tie
@@ -36,7 +36,7 @@ print-answer-requires c κs =
     let low = sym (judged .before .first-above .ensures) ∙ judged .if2 .taken in
     let left = c .before .before .before .left-over in
     let all : left .result .rank ≡ a .n = sym (c .before .before .wide .ensures) ∙ c .before .if3 .taken in
-    rw (at-fill .filled .ensures) (ready (a .n) (a .bytes .now) (left .result .rank) well low (rw (at-fill .filled .ensures) at (left .ensures .ranked)) all)
+    rw (at-fill .filled .ensures) (pairable (a .n) (a .bytes .now) (left .result .rank) well low (rw (at-fill .filled .ensures) at (left .ensures .ranked)) all)
 
 slice-aggregate-print : tie.Need-slice-aggregate-print
 slice-aggregate-print c = search needs

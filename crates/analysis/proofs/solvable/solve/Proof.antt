@@ -20,13 +20,13 @@ first-requires c κs =
     let start = c .before .before .before .before .before .before .before .before in
     let choice = c .before .before .before .before .before .before .before .least in
     let r = choice .result in (
-      start .pre .within,
+      start .pre .bounded .equations,
       rw (c .before .leading-rows .ensures)
           (chosen-full (start .args .n) (start .args .rows .now) (start .pre) (r .counts) (r .tops) (r .holders) (choice .ensures)),
     )
 
 solve-order-requires : tie.Need-solve-order-requires
-solve-order-requires c κs = first-partnered (c .before .before .before .before .before .before .before .before .before .before .pre .within)
+solve-order-requires c κs = first-partnered (c .before .before .before .before .before .before .before .before .before .before .pre .bounded .equations)
     (c .before .first .ensures)
 
 index-requires : tie.Need-index-requires
@@ -46,7 +46,7 @@ returns c =
     let r = choice .result in
     let lead = c .before .before .before .before .before .before .before .before .before .before .before .leading-rows .ensures in
     record {
-      within = start .pre .within;
+      within = start .pre .bounded .equations;
       least = choice .ensures .least;
       countsBeyond = choice .ensures .countsBeyond;
       topsBeyond = choice .ensures .topsBeyond;

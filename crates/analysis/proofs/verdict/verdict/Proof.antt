@@ -1,6 +1,6 @@
 -- `verdict::verdict` meets its contract: who may be left over, and then one of the two answers.
 use mathlib.Core.Path.{sym, _∙_}
-use Rattle.analysis.proofs.Verdicts.{all-ready, verdict-solvable, verdict-singular}
+use Rattle.analysis.proofs.Verdicts.{all-pairable, verdict-solvable, verdict-singular}
 use borrow.Author.Needs.{needs}
 use Rattle.analysis.proofs.verdict.verdict.Statement.{statement}
 use Rattle.analysis.proofs.verdict.verdict.Tie as tie
@@ -15,7 +15,7 @@ solvable-requires : tie.Need-solvable-requires
 solvable-requires c κs =
     let t = c .before in
     let start = t .before .before .before .before in
-    (all-ready (start .pre .0) (t .before .before .left-over .ensures) (sym (t .before .all-paired .ensures) ∙ t .if1 .taken), start .pre .1)
+    (all-pairable (start .pre .0) (t .before .before .left-over .ensures) (sym (t .before .all-paired .ensures) ∙ t .if1 .taken), start .pre .1)
 
 same-length : tie.Need-same-length
 same-length c = search needs

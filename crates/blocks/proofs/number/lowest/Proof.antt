@@ -4,13 +4,13 @@ use mathlib.Core.Logic.{⊎-elim}
 use Prim.Native.Nat.{_-_}
 use borrow.Author.Needs.{needs}
 use Rattle.table.specs.Model.{occursAt}
-use Rattle.blocks.specs.Handed.{at}
+use Rattle.laws.specs.Tab.{numberAt}
 use Rattle.blocks.proofs.Numbering.{Seeking, seek-start, seek-found, seek-kept, seek-past, seek-end}
 use Rattle.blocks.proofs.number.lowest.Statement.{statement}
 use Rattle.blocks.proofs.number.lowest.Tie as tie
 
 abbrev Inv-loop : tie.InvT-loop
-Inv-loop reach equations number best₀ e₀ best e = Seeking equations (occursAt reach) (at number) best e
+Inv-loop reach equations number best₀ e₀ best e = Seeking equations (occursAt reach) (numberAt number) best e
 
 abbrev μ-loop : tie.MeasureT-loop
 μ-loop reach equations number best₀ e₀ best e = equations - e

@@ -2,23 +2,23 @@
 use native.Mathlib.Omega.{arith}
 use borrow.Author.Needs.{needs}
 use Rattle.table.specs.Model.{limit, occursAt}
-use Rattle.blocks.specs.Handed.{at}
-use Rattle.blocks.proofs.Tables.{always}
+use Rattle.laws.specs.Tab.{numberAt}
+use Rattle.laws.proofs.Tab.{copies-at}
 use Rattle.blocks.proofs.Numbering.{unplaced, Counting, counting-start, counting-falls, counting-step, counting-end}
 use Rattle.blocks.proofs.number.numbers.Statement.{statement}
 use Rattle.blocks.proofs.number.numbers.Tie as tie
 
 abbrev Inv-loop : tie.InvT-loop
-Inv-loop reach equations number₀ blocks₀ e₀ number blocks e = Counting equations (occursAt reach) (at number) blocks e
+Inv-loop reach equations number₀ blocks₀ e₀ number blocks e = Counting equations (occursAt reach) (numberAt number) blocks e
 
 abbrev μ-loop : tie.MeasureT-loop
-μ-loop reach equations number₀ blocks₀ e₀ number blocks e = unplaced equations (at number)
+μ-loop reach equations number₀ blocks₀ e₀ number blocks e = unplaced equations (numberAt number)
 
 lowest-requires : tie.Need-lowest-requires Inv-loop μ-loop
 lowest-requires c κs = search needs
 
 loop-holds : tie.Need-loop-holds Inv-loop μ-loop
-loop-holds c = counting-start (λ f. always limit f 0) (c .lowest .ensures)
+loop-holds c = counting-start (λ f. copies-at {A = ℕ} limit 0 f) (c .lowest .ensures)
 
 add-blocks : tie.Need-add-blocks Inv-loop μ-loop
 add-blocks c =

@@ -4,17 +4,16 @@ use mathlib.Core.List.{List}
 use Prim.Native.Nat.{ℕ, _-_, _≤_}
 use native.Mathlib.Omega.{arith}
 use borrow.Author.Needs.{needs}
-use Rattle.laws.specs.Tab.{tab, upto}
+use Rattle.laws.specs.Tab.{tab, upto, numberAt}
 use Rattle.laws.proofs.Tab.{fill-start, replicate-tab}
 use Rattle.table.specs.Model.{limit, occursAt}
-use Rattle.blocks.specs.Handed.{at}
 use Rattle.blocks.specs.Steps.{renumbered}
 use Rattle.blocks.proofs.Tables.{fill-next, fill-done}
 use Rattle.blocks.proofs.number.renumber.Statement.{statement}
 use Rattle.blocks.proofs.number.renumber.Tie as tie
 
 abbrev now-has : List (List ℕ) → List ℕ → ℕ → ℕ → ℕ → ℕ
-now-has reach number e k = renumbered (occursAt reach) (at number) e k
+now-has reach number e k = renumbered (occursAt reach) (numberAt number) e k
 
 abbrev nothing : ℕ → ℕ
 nothing f = 0

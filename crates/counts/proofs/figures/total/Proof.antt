@@ -2,7 +2,7 @@
 use Prim.Native.Nat.{_-_, _*_, _≤_}
 use native.Mathlib.Numerals.{add-one}
 use Rattle.laws.specs.Count.{sum}
-use Rattle.counts.specs.Work.{numberAt}
+use Rattle.laws.specs.Tab.{numberAt}
 use mathlib.Core.Path.{_≡_}
 use native.Mathlib.Omega.{arith}
 use borrow.Author.Needs.{needs}

@@ -5,14 +5,15 @@ use native.Mathlib.Omega.{arith}
 use borrow.Author.Needs.{needs}
 use Rattle.laws.specs.Count.{sum}
 use Rattle.table.specs.Model.{occursAt}
-use Rattle.counts.specs.Work.{numberAt, highAt, topsOf, leadingRows}
-use Rattle.counts.specs.Placing.{PlacedIn, Went}
+use Rattle.counts.specs.Work.{highAt, topsOf, leadingRows}
+use Rattle.laws.specs.Tab.{numberAt}
+use Rattle.counts.specs.Kept.{KeptIn, Went}
 use Rattle.counts.proofs.Work.{begin-in, small-in, to-paired, from-paired, raise-in, nearer-in}
 use Rattle.counts.proofs.raise.least.Statement.{statement}
 use Rattle.counts.proofs.raise.least.Tie as tie
 
 abbrev Inv-loop : tie.InvT-loop
-Inv-loop table n counts₀ holders₀ paired₀ counts holders paired = (paired ≤ n) × PlacedIn n table paired counts holders
+Inv-loop table n counts₀ holders₀ paired₀ counts holders paired = (paired ≤ n) × KeptIn n table paired counts holders
 
 abbrev μ-loop : tie.MeasureT-loop
 μ-loop table n counts₀ holders₀ paired₀ counts holders paired = sum n (highAt n table counts) - sum n (numberAt counts)
@@ -30,7 +31,7 @@ pair-on-requires : tie.Need-pair-on-requires Inv-loop μ-loop
 pair-on-requires c κs =
     let s = c .before .before .before .before in
     let l = c .before .before .before .loop in
-    (s .pre .within, l .inv .0, rw (c .before .leading-of .ensures) (to-paired (s .args .n) (s .args .table .now) (l .counts) (s .pre .within) (l .paired) (l .holders) (l .inv .1)))
+    (s .pre .bounded .equations, l .inv .0, rw (c .before .leading-of .ensures) (to-paired (s .args .n) (s .args .table .now) (l .counts) (s .pre .bounded .equations) (l .paired) (l .holders) (l .inv .1)))
 
 -- how far the pairing went over the leading occurrences of the counts
 went : (c : tie.After-pair-on Inv-loop μ-loop) → Went
@@ -49,7 +50,7 @@ went : (c : tie.After-pair-on Inv-loop μ-loop) → Went
     (c .pair-on .result .asked)
 went c = rw (c .before .before .leading-of .ensures) at (c .pair-on .ensures)
 
-placed-on : (c : tie.After-pair-on Inv-loop μ-loop) → PlacedIn
+placed-on : (c : tie.After-pair-on Inv-loop μ-loop) → KeptIn
     (c .before .before .before .before .before .args .n)
     (c .before .before .before .before .before .args .table .now)
     (c .pair-on .result .paired)
@@ -58,7 +59,7 @@ placed-on : (c : tie.After-pair-on Inv-loop μ-loop) → PlacedIn
 placed-on c =
     let s = c .before .before .before .before .before in
     let l = c .before .before .before .before .loop in
-    from-paired (s .args .n) (s .args .table .now) (l .counts) (s .pre .within) (l .paired) (c .pair-on .result .paired) (l .holders) (c .pair-on .result .holders)
+    from-paired (s .args .n) (s .args .table .now) (l .counts) (s .pre .bounded .equations) (l .paired) (c .pair-on .result .paired) (l .holders) (c .pair-on .result .holders)
     (l .inv .1) (went c .upto)
 
 chosen-requires : tie.Need-chosen-requires Inv-loop μ-loop
@@ -74,7 +75,7 @@ raised-requires c κs =
     let p = c .before .before .before .before .before in
     let s = p .before .before .before .before .before in
     let l = p .before .before .before .before .loop in
-    (s .pre .within, small-in (s .args .n) (s .args .table .now) (s .pre) (l .paired) (l .counts) (l .holders) (l .inv .1) .few)
+    (s .pre .bounded .equations, small-in (s .args .n) (s .args .table .now) (s .pre) (l .paired) (l .counts) (l .holders) (l .inv .1) .few)
 
 loop-less : tie.Need-loop-less Inv-loop μ-loop
 loop-less c =

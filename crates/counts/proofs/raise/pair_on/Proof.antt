@@ -8,7 +8,7 @@ use borrow.Author.Needs.{needs}
 use Rattle.table.specs.Model.{limit, occursAt}
 use Rattle.pairing.specs.Holders.{held, Searched}
 use Rattle.pairing.proofs.Searching.{widen}
-use Rattle.counts.specs.Placing.{Paired}
+use Rattle.counts.specs.Kept.{Paired}
 use Rattle.counts.proofs.Pairs.{may-search, paired-next, went-all, went-some}
 use Rattle.counts.proofs.raise.pair_on.Statement.{statement}
 use Rattle.counts.proofs.raise.pair_on.Tie as tie

@@ -4,10 +4,9 @@ use mathlib.Core.List.{List}
 use Prim.Native.Nat.{ℕ, _+_, _-_, _≤_}
 use Rattle.laws.specs.Count.{bit}
 use Rattle.laws.specs.Marks.{marked}
-use Rattle.laws.specs.Tab.{tab, upto}
+use Rattle.laws.specs.Tab.{tab, upto, numberAt}
 use Rattle.laws.proofs.Tab.{fill-start, fill-step, replicate-tab}
 use Rattle.table.specs.Model.{limit}
-use Rattle.counts.specs.Work.{numberAt}
 use mathlib.Core.Path.{_≡_, _∙_}
 use native.Mathlib.Omega.{arith}
 use borrow.Author.Needs.{needs}

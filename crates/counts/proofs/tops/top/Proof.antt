@@ -33,7 +33,7 @@ lifted-requires c κs =
     let i = b .loop .e in
     let place : c .before .before .at .result .0 - 1 ≡ i = omega arith in
     let few = pre .0 .few i (search needs) in
-    let k = pre .0 .codes i (b .before .args .u .0 - 1) (search needs) (omega arith) in
+    let k = pre .0 .bounded .codes i (b .before .args .u .0 - 1) (search needs) (omega arith) in
     (rw (c .before .code .ensures, place) k, few)
 
 larger-requires : tie.Need-larger-requires Inv-loop μ-loop
