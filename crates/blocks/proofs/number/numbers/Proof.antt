@@ -18,7 +18,7 @@ lowest-requires : tie.Need-lowest-requires Inv-loop μ-loop
 lowest-requires c κs = search needs
 
 loop-holds : tie.Need-loop-holds Inv-loop μ-loop
-loop-holds c = counting-start (λ f. copies-at {A = ℕ} limit 0 f) (c .lowest .ensures)
+loop-holds c = counting-start (λ f. copies-at limit 0 f) (c .lowest .ensures)
 
 add-blocks : tie.Need-add-blocks Inv-loop μ-loop
 add-blocks c =
