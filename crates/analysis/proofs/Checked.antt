@@ -24,7 +24,7 @@ use Rattle.blocks.proofs.ReachTables.{needs-within}
 use Rattle.analysis.specs.Outcome.{packed, strips, answerBytes, refusal, Solved, Singular, Verdict}
 use Rattle.analysis.specs.Written.{placesOf}
 use Rattle.analysis.specs.Models.{Row, Holds, Every, models}
-use Rattle.analysis.proofs.Finite.{is-not, every, every-at, same, same-is}
+use Rattle.analysis.proofs.Finite.{is-not, allTrue, all-true-at, same, same-is}
 use Rattle.analysis.proofs.RankBy.{pairsIn, isPairing, is-pairing, overs, isLargest, rank-is, surplus-are, unfixed-are}
 use Rattle.analysis.proofs.LeastBy.{isPartners, is-partners, isOver, isLeast, is-least}
 use Rattle.analysis.proofs.FirstBy.{isFirst, is-first}
@@ -58,7 +58,7 @@ solvedTests n edge ord rank r =
 abbrev bytesOf : Row → List ℕ → List ℕ
 bytesOf r before = strips (r .strip1) (r .strip2) (r .strip3) (r .strip4) (r .strip5) ++ drop answerBytes before
 
-solved : (n : ℕ) (edge : Rel) (ord : ℕ → ℕ → ℕ) (rank : ℕ) (r : Row) (behind : List ℕ) → every (solvedTests n edge ord rank r) ≡ true
+solved : (n : ℕ) (edge : Rel) (ord : ℕ → ℕ → ℕ) (rank : ℕ) (r : Row) (behind : List ℕ) → allTrue (solvedTests n edge ord rank r) ≡ true
     → Solved n edge ord rank behind (r .number) (bytesOf r behind)
 solved n edge ord rank r behind t = record {
   counts = r .strip1;
@@ -78,7 +78,7 @@ solved n edge ord rank r behind t = record {
 }
   where
     at : (i : ℕ) → getD (solvedTests n edge ord rank r) i true ≡ true
-    at = every-at (solvedTests n edge ord rank r) t
+    at = all-true-at (solvedTests n edge ord rank r) t
 
     long : {k : ℕ} → eqb k n ≡ true → k ≡ n
     long {k} w = eqb-true k n w
@@ -101,7 +101,7 @@ singularTests E U edge M r =
     ∷ []
 
 singular : (E U : ℕ) (edge M : Rel) (r : Row) (behind : List ℕ) → Pairing E U edge M → isLargest E U edge M ≡ true → isLargest U E (turn edge) (turn M) ≡ true
-    → every (singularTests E U edge M r) ≡ true → Singular E U edge (size E U M) behind (r .number) (bytesOf r behind)
+    → allTrue (singularTests E U edge M r) ≡ true → Singular E U edge (size E U M) behind (r .number) (bytesOf r behind)
 singular E U edge M r behind k a b t = record {
   surplus = members E (marked (overs E U edge M));
   unfixed = members U (marked (overs U E (turn edge) (turn M)));
@@ -114,7 +114,7 @@ singular E U edge M r behind k a b t = record {
 }
   where
     at : (i : ℕ) → getD (singularTests E U edge M r) i true ≡ true
-    at = every-at (singularTests E U edge M r) t
+    at = all-true-at (singularTests E U edge M r) t
 
     listed : {v w x y z : List ℕ} → r .strip1 ≡ v → r .strip2 ≡ w → r .strip3 ≡ x → r .strip4 ≡ y → r .strip5 ≡ z
         → bytesOf r behind ≡ strips v w x y z ++ drop answerBytes behind
@@ -129,10 +129,10 @@ verdictTests edge ord l r =
     isPairing E U edge l
     ∷ isLargest E U edge M
     ∷ isLargest U E (turn edge) (turn M)
-    ∷ pick (eqb E U && eqb (size E U M) E) (every (solvedTests E edge ord (size E U M) r)) (every (singularTests E U edge M r))
+    ∷ pick (eqb E U && eqb (size E U M) E) (allTrue (solvedTests E edge ord (size E U M) r)) (allTrue (singularTests E U edge M r))
     ∷ []
 
-module _ (edge : Rel) (ord : ℕ → ℕ → ℕ) (l : List ℕ) (r : Row) (t : every (verdictTests edge ord l r) ≡ true) where
+module _ (edge : Rel) (ord : ℕ → ℕ → ℕ) (l : List ℕ) (r : Row) (t : allTrue (verdictTests edge ord l r) ≡ true) where
   abbrev E : ℕ
   E = r .equations
 
@@ -143,15 +143,15 @@ module _ (edge : Rel) (ord : ℕ → ℕ → ℕ) (l : List ℕ) (r : Row) (t : 
   M = pairsIn E U l
 
   at : (i : ℕ) → getD (verdictTests edge ord l r) i true ≡ true
-  at = every-at (verdictTests edge ord l r) t
+  at = all-true-at (verdictTests edge ord l r) t
 
   k : Pairing E U edge M
   k = is-pairing E U edge l (at 0)
 
-  full : (eqb E U && eqb (size E U M) E) ≡ true → every (solvedTests E edge ord (size E U M) r) ≡ true
+  full : (eqb E U && eqb (size E U M) E) ≡ true → allTrue (solvedTests E edge ord (size E U M) r) ≡ true
   full w = rw w at (at 3)
 
-  short : (eqb E U && eqb (size E U M) E) ≡ false → every (singularTests E U edge M r) ≡ true
+  short : (eqb E U && eqb (size E U M) E) ≡ false → allTrue (singularTests E U edge M r) ≡ true
   short w = rw w at (at 3)
 
   verdict : (behind : List ℕ) → Verdict E U edge ord behind (r .number) (bytesOf r behind)
@@ -197,12 +197,12 @@ not-refused r t before h =
 abbrev rowTest : Row → List ℕ → Bool
 rowTest r l =
     let codes = lentCode (r .equations) (r .unknowns) (r .table) in
-    judged r && every (verdictTests (λ e u. not (eqb (codes e u) 0)) (λ e u. codes e u - 1) l r)
+    judged r && allTrue (verdictTests (λ e u. not (eqb (codes e u) 0)) (λ e u. codes e u - 1) l r)
 
 holds : (r : Row) (l : List ℕ) → rowTest r l ≡ true → Holds r
 holds r l t before h =
     let codes = lentCode (r .equations) (r .unknowns) (r .table) in
-    let rest = every (verdictTests (λ e u. not (eqb (codes e u) 0)) (λ e u. codes e u - 1) l r) in
+    let rest = allTrue (verdictTests (λ e u. not (eqb (codes e u) 0)) (λ e u. codes e u - 1) l r) in
     let j = and-left (judged r) rest t in
     let z = not-refused r j before h in
     let w = limits (r .equations) (r .unknowns) (and-left (inLimits (r .equations) (r .unknowns)) _ j) in

@@ -43,14 +43,14 @@ pub implies-at : {a b : Bool} → implies a b ≡ true → a ≡ true → b ≡ 
 implies-at t h = cc
 
 -- all of a list
-abbrev pub every : List Bool → Bool
-every [] = true
-every (b ∷ bs) = b && every bs
+abbrev pub allTrue : List Bool → Bool
+allTrue [] = true
+allTrue (b ∷ bs) = b && allTrue bs
 
-pub every-at : (l : List Bool) → every l ≡ true → (i : ℕ) → getD l i true ≡ true
-every-at [] t i = refl
-every-at (b ∷ bs) t zero = and-left b (every bs) t
-every-at (b ∷ bs) t (suc i) = every-at bs (and-right b (every bs) t) i
+pub all-true-at : (l : List Bool) → allTrue l ≡ true → (i : ℕ) → getD l i true ≡ true
+all-true-at [] t i = refl
+all-true-at (b ∷ bs) t zero = and-left b (allTrue bs) t
+all-true-at (b ∷ bs) t (suc i) = all-true-at bs (and-right b (allTrue bs) t) i
 
 -- two lists of numbers are the same
 abbrev pub same : List ℕ → List ℕ → Bool

@@ -18,7 +18,7 @@ use Rattle.pairing.specs.Pairing.{Rel}
 use Rattle.blocks.specs.Blocks.{Reaches, Shares, Stands, Ready, before, Placed}
 use Rattle.blocks.specs.Blocks.Reaches.{here, step}
 use Rattle.blocks.specs.Handed.{Within}
-use Rattle.analysis.proofs.Finite.{all, all-at, all-from, all2, all2-at, implies, implies-at, every, every-at}
+use Rattle.analysis.proofs.Finite.{all, all-at, all-from, all2, all2-at, implies, implies-at, allTrue, all-true-at}
 use Rattle.analysis.proofs.Closure.{closure, closed, closed-at, closure-only, closure-start}
 
 -- what each equation reaches, a row an equation
@@ -77,7 +77,7 @@ placedTests n R rows o b k =
     ∷ []
 
 abbrev pub isPlaced : ℕ → Rel → (ℕ → ℕ) → (ℕ → ℕ) → ℕ → Bool
-isPlaced n R o b k = every (placedTests n R (reachRows n R) o b k)
+isPlaced n R o b k = allTrue (placedTests n R (reachRows n R) o b k)
 
 reach-next : {R : Rel} {e a g : ℕ} → Reaches R e a → R a g ≡ true → Reaches R e g
 reach-next {g = g} here s = step g s here
@@ -172,7 +172,7 @@ is-placed n R W o b k t = record {
     rows = reachRows n R
 
     at : (i : ℕ) → getD (placedTests n R (reachRows n R) o b k) i true ≡ true
-    at = every-at (placedTests n R (reachRows n R) o b k) t
+    at = all-true-at (placedTests n R (reachRows n R) o b k) t
 
     inside : (i : ℕ) → i < n → o i < n
     inside i h = ltb-true (o i) n (all-at (λ i. ltb (o i) n) (at 1) i h)

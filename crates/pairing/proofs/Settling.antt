@@ -62,13 +62,13 @@ settle-some {n} {edge} {h} {e} l b s none =
     omega arith
 
 -- the partners of the first e equations, read off
-pub record Read (n : ℕ) (h : List Equation) (l : List Unknown) (e : ℕ) : Type 0 where
+pub record TakenOff (n : ℕ) (h : List Equation) (l : List Unknown) (e : ℕ) : Type 0 where
   pub whole : length l ≡ limit
   pub read : (i : ℕ) → i < e → (1 ≤ partnerOf l i) × (held h i (partnerOf l i - 1) ≡ true)
   pub beyond : (i : ℕ) → e ≤ i → partnerOf l i ≡ 0
 
 pub read-next : {n : ℕ} {edge : Rel} {h : List Equation} {l : List Unknown} {e : ℕ} (x : Unknown) → n ≤ limit → e < n → Full n n edge (held h) → HeldBy n h e (x .0)
-    → Read n h l e → Read n h (set l e x) (e + 1)
+    → TakenOff n h l e → TakenOff n h (set l e x) (e + 1)
 read-next {n} {edge} {h} {l} {e} x ln b full y r = record {
   whole = length-set l e x ∙ r .whole;
   read = λ i c. test (eqb i e)
@@ -86,7 +86,7 @@ read-next {n} {edge} {h} {l} {e} x ln b full y r = record {
     there : (i : ℕ) → (i ≡ e → ⊥) → partnerOf (set l e x) i ≡ partnerOf l i
     there i ne = ap (λ (y : Unknown). y .0) (getD-set-other l e i x (record { 0 = 0 }) ne)
 
-pub first-is : {n : ℕ} {edge : Rel} {h : List Equation} {l : List Unknown} → Settled n edge h n → Read n h l n → FirstIs n edge l
+pub first-is : {n : ℕ} {edge : Rel} {h : List Equation} {l : List Unknown} → Settled n edge h n → TakenOff n h l n → FirstIs n edge l
 first-is {n} {edge} {h} {l} s r = record {
   first = record {
     ok = partners-of (s .full .ok) (λ e b. r .read e b .1);

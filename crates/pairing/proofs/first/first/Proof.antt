@@ -6,12 +6,12 @@ use borrow.Author.Needs.{needs}
 use Rattle.laws.proofs.Tab.{copies-at}
 use Rattle.table.specs.Model.{limit}
 use Rattle.table.specs.declared.number.Unknown.{Unknown}
-use Rattle.pairing.proofs.Settling.{Read, read-next, first-is}
+use Rattle.pairing.proofs.Settling.{TakenOff, read-next, first-is}
 use Rattle.pairing.proofs.first.first.Statement.{statement}
 use Rattle.pairing.proofs.first.first.Tie as tie
 
 abbrev Inv-loop : tie.InvT-loop
-Inv-loop table n settled partners₀ e₀ partners e = (e ≤ n) × Read n settled partners e
+Inv-loop table n settled partners₀ e₀ partners e = (e ≤ n) × TakenOff n settled partners e
 
 abbrev μ-loop : tie.MeasureT-loop
 μ-loop table n settled partners₀ e₀ partners e = n - e
