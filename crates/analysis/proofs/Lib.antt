@@ -12,3 +12,4 @@ pub mod Refusal
 pub mod Solution
 pub mod Verdicts
 pub mod Packed
+pub mod Demands
