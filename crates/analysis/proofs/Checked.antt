@@ -18,6 +18,7 @@ use Rattle.table.proofs.Model.{limits, square-at}
 use Rattle.pairing.specs.Pairing.{Rel, turn, Pairing, size}
 use Rattle.pairing.specs.First.{Partners}
 use Rattle.pairing.specs.Members.{members}
+use Rattle.pairing.proofs.Certify.{overs}
 use Rattle.counts.specs.Fit.{leading, indexOf, freedomOf}
 use Rattle.blocks.specs.Blocks.{needsAt, before}
 use Rattle.blocks.proofs.ReachTables.{needs-within}
@@ -25,7 +26,7 @@ use Rattle.analysis.specs.Outcome.{packed, strips, answerBytes, refusal,
 use Rattle.analysis.specs.Written.{placesOf}
 use Rattle.analysis.specs.Models.{Row, Holds, Every, models}
 use Rattle.analysis.proofs.Finite.{is-not, allTrue, all-true-at, same, same-is}
-use Rattle.analysis.proofs.RankBy.{pairsIn, isPairing, is-pairing, overs, isLargest, rank-is, surplus-are, unfixed-are}
+use Rattle.analysis.proofs.RankBy.{pairsIn, isPairing, is-pairing, isLargest, rank-is, surplus-are, unfixed-are}
 use Rattle.analysis.proofs.LeastBy.{isPartners, is-partners, isOver, isLeast, is-least}
 use Rattle.analysis.proofs.FirstBy.{isFirst, is-first}
 use Rattle.analysis.proofs.PlacedBy.{isPlaced, is-placed}

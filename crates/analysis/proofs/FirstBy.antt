@@ -14,7 +14,7 @@ use Rattle.laws.proofs.Inject.{onto}
 use Rattle.pairing.specs.Pairing.{Rel}
 use Rattle.pairing.specs.First.{Partners, First}
 use Rattle.analysis.proofs.Finite.{all, all-at, is-not}
-use Rattle.analysis.proofs.Closure.{closure, closed, closed-at, closure-only, closure-start}
+use Rattle.laws.proofs.Closure.{closure, closure-only, closure-start, closure-closed}
 use Rattle.analysis.proofs.LeastBy.{partner-of}
 
 -- h, behind e, holds a lower unknown that e could have
@@ -28,14 +28,14 @@ moves edge p e a g = leb e g && edge a (p g)
 abbrev pub moved : ℕ → Rel → (ℕ → ℕ) → ℕ → List Bool
 moved n edge p e = closure n (moves edge p e) (wants edge p e)
 
-abbrev stays : ℕ → Rel → (ℕ → ℕ) → ℕ → List Bool → Bool
-stays n edge p e C = closed n (moves edge p e) C && not (marked C e)
+abbrev stays : ℕ → Rel → (ℕ → ℕ) → ℕ → Bool
+stays n edge p e = not (marked (moved n edge p e) e)
 
 abbrev pub isFirst : ℕ → Rel → (ℕ → ℕ) → Bool
-isFirst n edge p = all n (λ e. stays n edge p e (moved n edge p e))
+isFirst n edge p = all n (stays n edge p)
 
 module _ (n : ℕ) (edge : Rel) (p : ℕ → ℕ) (k : Partners n n edge p) (q : ℕ → ℕ) (j : Partners n n edge q) (e : ℕ) (h : e < n)
-    (agree : (i : ℕ) → i < e → q i ≡ p i) (t : stays n edge p e (moved n edge p e) ≡ true) where
+    (agree : (i : ℕ) → i < e → q i ≡ p i) (t : stays n edge p e ≡ true) where
   abbrev C : ℕ → Bool
   C = marked (moved n edge p e)
 
@@ -58,7 +58,7 @@ module _ (n : ℕ) (edge : Rel) (p : ℕ → ℕ) (k : Partners n n edge p) (q :
     g,
     l,
     and-both (lt-ltb a n b) (eq-eqb (q a) (p g) (sym s)),
-    closed-at (moves edge p e) (moved n edge p e) (and-left (closed n (moves edge p e) (moved n edge p e)) (not (C e)) t) a g b l c
+    closure-closed n (moves edge p e) (wants edge p e) a g b l c
         (and-both (le-leb e g (not-before a g b l (from-e a c) s)) (rw s (j .fits a b))),
   ))
 
@@ -79,11 +79,11 @@ module _ (n : ℕ) (edge : Rel) (p : ℕ → ℕ) (k : Partners n n edge p) (q :
       (and-both (lt-ltb e g other) (and-both (rw (sym s) at (j .fits e h)) (lt-ltb (p g) (p e) (omega arith)))) in
       given (onto n C gives alone into g l member) (λ (a, b, c, r).
       let z : a ≡ e = same-q a e b h (gives-is a g r .1 ∙ s) in
-      clash (rw z at c) (is-not (C e) (and-right (closed n (moves edge p e) (moved n edge p e)) (not (C e)) t))))
+      clash (rw z at c) (is-not (C e) t)))
 
 pub is-first : (n : ℕ) (edge : Rel) (p : ℕ → ℕ) → Partners n n edge p → isFirst n edge p ≡ true → First n n edge p
 is-first n edge p k t = record {
   ok = k;
   low = λ q j e h agree. test (leb (p e) (q e)) (λ w. omega (arith, tests))
-      (λ w. absurd (not-lower n edge p k q j e h agree (all-at (λ e. stays n edge p e (moved n edge p e)) t e h) (omega (arith, tests))));
+      (λ w. absurd (not-lower n edge p k q j e h agree (all-at (stays n edge p) t e h) (omega (arith, tests))));
 }

@@ -18,7 +18,7 @@ use Rattle.counts.specs.Fit.{Fits, Least, largest, leading}
 use Rattle.counts.proofs.High.{largest-over}
 use Rattle.counts.proofs.Fit.{met}
 use Rattle.analysis.proofs.Finite.{all, all-at, all2, all2-at, implies, implies-at}
-use Rattle.analysis.proofs.Closure.{closure, closure-only}
+use Rattle.laws.proofs.Closure.{closure, closure-only}
 
 abbrev pub isPartners : ℕ → Rel → (ℕ → ℕ) → Bool
 isPartners n edge p = all n (λ e. ltb (p e) n && edge e (p e)) && all2 n n (λ e f. implies (eqb (p e) (p f)) (eqb e f))

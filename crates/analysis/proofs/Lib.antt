@@ -1,7 +1,6 @@
 -- The laws of this crate.
 pub mod One
 pub mod Finite
-pub mod Closure
 pub mod RankBy
 pub mod LeastBy
 pub mod FirstBy
@@ -13,3 +12,4 @@ pub mod Refusal
 pub mod Solution
 pub mod Verdicts
 pub mod Packed
+pub mod Demands

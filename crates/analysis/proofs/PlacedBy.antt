@@ -19,7 +19,7 @@ use Rattle.blocks.specs.Blocks.{Reaches, Shares, Stands, Ready, before, Placed}
 use Rattle.blocks.specs.Blocks.Reaches.{here, step}
 use Rattle.blocks.specs.Handed.{Within}
 use Rattle.analysis.proofs.Finite.{all, all-at, all-from, all2, all2-at, implies, implies-at, allTrue, all-true-at}
-use Rattle.analysis.proofs.Closure.{closure, closed, closed-at, closure-only, closure-start}
+use Rattle.laws.proofs.Closure.{closure, closure-only, closure-start, closure-closed}
 
 -- what each equation reaches, a row an equation
 abbrev pub reachRows : ℕ → Rel → List (List Bool)
@@ -62,8 +62,7 @@ lowestAt n R rows o b i j = implies (leb (b i) (b j) && readyAt n R rows o b (b 
 
 abbrev placedTests : ℕ → Rel → List (List Bool) → (ℕ → ℕ) → (ℕ → ℕ) → ℕ → List Bool
 placedTests n R rows o b k =
-    all n (λ e. closed n R (getD rows e []))
-    ∷ all n (λ i. ltb (o i) n)
+    all n (λ i. ltb (o i) n)
     ∷ all2 n n (onceAt o)
     ∷ all n (λ e. any n (λ i. eqb (o i) e))
     ∷ all n (λ i. leb 1 (b i))
@@ -83,7 +82,7 @@ reach-next : {R : Rel} {e a g : ℕ} → Reaches R e a → R a g ≡ true → Re
 reach-next {g = g} here s = step g s here
 reach-next (step f t r) s = step f t (reach-next r s)
 
-module _ (n : ℕ) (R : Rel) (W : Within n R) (shut : all n (λ e. closed n R (getD (reachRows n R) e [])) ≡ true) where
+module _ (n : ℕ) (R : Rel) (W : Within n R) where
   abbrev rows : List (List Bool)
   rows = reachRows n R
 
@@ -97,7 +96,7 @@ module _ (n : ℕ) (R : Rel) (W : Within n R) (shut : all n (λ e. closed n R (g
   onward : (e a : ℕ) → e < n → a < n → reaches rows e a ≡ true → {g : ℕ} → Reaches R a g → reaches rows e g ≡ true
   onward e a h b t here = t
   onward e a h b t (step f s r) = let c = W .col a f s in
-      onward e f h c (closed-at R (getD rows e []) (all-at (λ e. closed n R (getD rows e [])) shut e h) a f b c t s) r
+      onward e f h c (rw (row e h) (closure-closed n R (eqb e) a f b c (rw (row e h) at t) s)) r
 
   complete : (e g : ℕ) → e < n → Reaches R e g → reaches rows e g ≡ true
   complete e g h r = onward e e h h (rw (row e h) (closure-start n R (eqb e) e h (eq-eqb e e refl))) r
@@ -147,19 +146,19 @@ module _ (n : ℕ) (R : Rel) (W : Within n R) (shut : all n (λ e. closed n R (g
 pub is-placed : (n : ℕ) (R : Rel) → Within n R → (o b : ℕ → ℕ) (k : ℕ) → isPlaced n R o b k ≡ true → Placed n R o b k
 is-placed n R W o b k t = record {
   within = inside;
-  once = λ i j h l q. eqb-true i j (implies-at (all2-at (onceAt o) (at 2) i j h l) (eq-eqb (o i) (o j) q));
-  every = λ e h. given (any-where {n = n} (λ i. eqb (o i) e) (all-at (λ e. any n (λ i. eqb (o i) e)) (at 3) e h)) (λ (i, l, w). (i, l, eqb-true (o i) e w));
-  from-one = λ i h. leb-true 1 (b i) (all-at (λ i. leb 1 (b i)) (at 4) i h);
-  rises = λ i h. leb-true (before b i) (b i) (and-left (leb (before b i) (b i)) (leb (b i) (suc (before b i))) (all-at (risesAt b) (at 5) i h));
-  by-one = λ i h. leb-true (b i) (suc (before b i)) (and-right (leb (before b i) (b i)) (leb (b i) (suc (before b i))) (all-at (risesAt b) (at 5) i h));
-  last = eqb-true k (before b n) (at 6);
-  same = λ i j h l q. share n R W (at 0) (o i) (o j) (inside i h) (inside j l) (implies-at (all2-at (sameAt rows o b) (at 7) i j h l) (eq-eqb (b i) (b j) q));
-  shared = λ i j h l s. eqb-true (b i) (b j) (implies-at (all2-at (sharedAt rows o b) (at 8) i j h l) (shared n R W (at 0) (o i) (o j) (inside i h) (inside j l) s));
+  once = λ i j h l q. eqb-true i j (implies-at (all2-at (onceAt o) (at 1) i j h l) (eq-eqb (o i) (o j) q));
+  every = λ e h. given (any-where {n = n} (λ i. eqb (o i) e) (all-at (λ e. any n (λ i. eqb (o i) e)) (at 2) e h)) (λ (i, l, w). (i, l, eqb-true (o i) e w));
+  from-one = λ i h. leb-true 1 (b i) (all-at (λ i. leb 1 (b i)) (at 3) i h);
+  rises = λ i h. leb-true (before b i) (b i) (and-left (leb (before b i) (b i)) (leb (b i) (suc (before b i))) (all-at (risesAt b) (at 4) i h));
+  by-one = λ i h. leb-true (b i) (suc (before b i)) (and-right (leb (before b i) (b i)) (leb (b i) (suc (before b i))) (all-at (risesAt b) (at 4) i h));
+  last = eqb-true k (before b n) (at 5);
+  same = λ i j h l q. share n R W (o i) (o j) (inside i h) (inside j l) (implies-at (all2-at (sameAt rows o b) (at 6) i j h l) (eq-eqb (b i) (b j) q));
+  shared = λ i j h l s. eqb-true (b i) (b j) (implies-at (all2-at (sharedAt rows o b) (at 7) i j h l) (shared n R W (o i) (o j) (inside i h) (inside j l) s));
   ascends = λ i j q l e. let h : i < n = omega arith in
-      ltb-true (o i) (o j) (implies-at (all2-at (ascendsAt o b) (at 9) i j h l) (and-both (lt-ltb i j q) (eq-eqb (b i) (b j) e)));
-  ready = λ i h. ready-from n R W (at 0) o b (b i) (o i) (inside i h) (all-at (λ i. readyAt n R rows o b (b i) (o i)) (at 10) i h);
+      ltb-true (o i) (o j) (implies-at (all2-at (ascendsAt o b) (at 8) i j h l) (and-both (lt-ltb i j q) (eq-eqb (b i) (b j) e)));
+  ready = λ i h. ready-from n R W o b (b i) (o i) (inside i h) (all-at (λ i. readyAt n R rows o b (b i) (o i)) (at 9) i h);
   lowest = λ i j h l q r. given (any-where {n = n} (λ h. eqb (b h) (b i) && leb (o h) (o j))
-      (implies-at (all2-at (lowestAt n R rows o b) (at 11) i j h l) (and-both (le-leb (b i) (b j) q) (ready-to n R W (at 0) o b (b i) (o j) (inside j l) r))))
+      (implies-at (all2-at (lowestAt n R rows o b) (at 10) i j h l) (and-both (le-leb (b i) (b j) q) (ready-to n R W o b (b i) (o j) (inside j l) r))))
       (λ (g, c, w). (
         g,
         c,
@@ -175,4 +174,4 @@ is-placed n R W o b k t = record {
     at = all-true-at (placedTests n R (reachRows n R) o b k) t
 
     inside : (i : ℕ) → i < n → o i < n
-    inside i h = ltb-true (o i) n (all-at (λ i. ltb (o i) n) (at 1) i h)
+    inside i h = ltb-true (o i) n (all-at (λ i. ltb (o i) n) (at 0) i h)

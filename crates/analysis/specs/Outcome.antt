@@ -3,7 +3,7 @@
 use mathlib.Core.Path.{_≡_}
 use mathlib.Core.Bool.{not}
 use mathlib.Core.List.{List, [], _++_, map}
-use Prim.Native.Nat.{ℕ, suc, _+_, _*_}
+use Prim.Native.Nat.{ℕ, suc, _+_, _*_, _/_, _%_}
 use lib.Dec.{eqb, ltb}
 use lib.ListN.{length, getD, drop}
 use Rattle.laws.specs.Tab.{tab, pick, numberAt}
@@ -17,6 +17,25 @@ use Rattle.blocks.specs.Blocks.{needsAt, Placed}
 abbrev pub packed : ℕ → ℕ → ℕ → ℕ → ℕ → ℕ → ℕ
 packed code place rank index freedom blocks =
     code + place * 256 + rank * 16777216 + index * 4294967296 + freedom * 1099511627776 + blocks * 281474976710656
+
+-- and how the caller takes them off again
+abbrev pub codeIn : ℕ → ℕ
+codeIn number = number % 256
+
+abbrev pub placeIn : ℕ → ℕ
+placeIn number = number / 256 % 65536
+
+abbrev pub rankIn : ℕ → ℕ
+rankIn number = number / 16777216 % 256
+
+abbrev pub indexIn : ℕ → ℕ
+indexIn number = number / 4294967296 % 256
+
+abbrev pub freedomIn : ℕ → ℕ
+freedomIn number = number / 1099511627776 % 256
+
+abbrev pub blocksIn : ℕ → ℕ
+blocksIn number = number / 281474976710656 % 256
 
 -- unused places of a strip are 255
 abbrev pub unused : ℕ

@@ -6,3 +6,4 @@ pub mod Sum
 pub mod Inject
 pub mod Counts
 pub mod Marks
+pub mod Closure

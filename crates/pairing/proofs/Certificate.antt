@@ -2,22 +2,22 @@
 -- is reached from one in X that M leaves over. Then M is a largest pairing, and the equations of X are those that some largest pairing leaves over.
 -- Any pairing maps one to one into M: an equation outside X to itself, one in X to the holder of its unknown; nothing in X is mapped outside, so who is
 -- left over outside X makes the pairing smaller. Who is reached is left over after re-pairing along the way (Along).
-use mathlib.Core.Path.{_≡_, refl, sym, ap, _∙_}
+use mathlib.Core.Path.{_≡_, refl, sym, _∙_}
 use mathlib.Core.Bool.{Bool, true, false, not, _&&_}
 use mathlib.Core.Logic.{_↔_}
 use Prim.Native.Nat.{ℕ, _+_, _-_, _<_, _≤_}
 use native.Mathlib.Omega.{arith}
 use native.Mathlib.Nat.{le-antisymm}
 use Rattle.laws.specs.Count.{bit, count, any}
-use Rattle.laws.proofs.Tests.{test, given, clash, not-false, and-left, and-right, and-both, same-test}
-use Rattle.laws.proofs.Search.{any-here, any-where, any-same}
+use Rattle.laws.proofs.Tests.{test, given, clash, not-false, and-left, and-right, and-both}
+use Rattle.laws.proofs.Search.{any-here, any-where}
 use Rattle.laws.proofs.Sum.{sum-same, sum-add}
 use Rattle.laws.proofs.Counts.{count-not}
 use Rattle.laws.proofs.Inject.{count-inject, count-misses}
-use Rattle.pairing.specs.Pairing.{Rel, Pairing, size, Largest, Rank, LeftOver, Surplus}
+use Rattle.pairing.specs.Pairing.{Rel, Pairing, size, Largest, LeftOver, Surplus}
 use Rattle.pairing.specs.Left.{Certificate}
 use Rattle.pairing.proofs.Along.{reached-surplus}
-use Rattle.pairing.proofs.Sizes.{size-rows, has-pair, no-pair, largest-size}
+use Rattle.pairing.proofs.Sizes.{size-rows, has-pair, no-pair}
 
 -- where the equation e of a pairing Q goes in M
 data Goes (M Q : Rel) (X : ℕ → Bool) (e g : ℕ) : Type 0 where
@@ -91,18 +91,3 @@ module _ {m n : ℕ} {edge M : Rel} {X : ℕ → Bool} (c : Certificate m n edge
       let d = count-not m X in
       let r = size-rows m n M in
       omega arith
-
-  -- the same in the words of the definitions: Y any test of who is surplus, k the rank
-  module _ {k : ℕ} (Y : ℕ → Bool) (is : (e : ℕ) → e < m → (Y e ≡ true) ↔ Surplus m n edge e) (r : Rank m n edge k) where
-    same : (e : ℕ) → e < m → Y e ≡ X e
-    same e h = same-test (λ t. only e h (is e h .0 t)) (λ t. is e h .1 (each e t))
-
-    pub surplus-deficit : count m Y ≡ count n (λ u. any m (λ e. Y e && edge e u)) + (m - k)
-    surplus-deficit =
-        let a = sum-same m (λ e. bit (Y e)) (λ e. bit (X e)) (λ e h. ap bit (same e h)) in
-        let b = sum-same n (λ u. bit (any m (λ e. Y e && edge e u))) (λ u. bit (any m (λ e. X e && edge e u)))
-        (λ u h. ap bit (any-same m (λ e. Y e && edge e u) (λ e. X e && edge e u) (λ e i. rw (same e i)))) in
-        let d = deficit in
-        let l = largest-size (r .largest) largest in
-        let q = r .counts in
-        omega arith

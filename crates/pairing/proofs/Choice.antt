@@ -1,17 +1,21 @@
 -- The first full pairing is one: two of them agree at each equation once they agree before it, each being the lower there.
 -- And a full pairing as a relation and as a function are the same thing.
-use mathlib.Core.Path.{_≡_, refl, sym, _∙_}
+use mathlib.Core.Path.{_≡_, refl, sym, ap, _∙_}
 use mathlib.Core.Bool.{Bool, true, _&&_}
+use mathlib.Core.List.{List}
 use Prim.Native.Nat.{ℕ, zero, suc, _<_}
 use native.Mathlib.Omega.{arith}
 use native.Mathlib.Nat.{le-antisymm}
 use lib.Dec.{eqb, ltb}
-use borrow.Author.Tests.{ltb-true, lt-ltb, eqb-true, eq-eqb}
+use lib.ListN.{length}
+use lib.Seq.{ext-getD}
+use borrow.Author.Tests.{ltb-true, ltb-false, lt-ltb, eqb-true, eq-eqb}
 use Rattle.laws.specs.Count.{any}
 use Rattle.laws.specs.Tab.{pick}
 use Rattle.laws.proofs.Tests.{test, either, given, clash, true≢false, and-left, and-right, and-both, or-cases}
+use Rattle.table.specs.declared.number.Unknown.{Unknown}
 use Rattle.pairing.specs.Pairing.{Rel, Pairing, Full}
-use Rattle.pairing.specs.First.{Partners, First}
+use Rattle.pairing.specs.First.{Partners, First, partnerOf, FirstIs}
 use Rattle.pairing.proofs.Sizes.{has-pair}
 
 module _ {m n : ℕ} {edge : Rel} {p q : ℕ → ℕ} (a : First m n edge p) (b : First m n edge q) where
@@ -23,6 +27,16 @@ module _ {m n : ℕ} {edge : Rel} {p q : ℕ → ℕ} (a : First m n edge p) (b 
 
   pub first-one : (e : ℕ) → e < m → p e ≡ q e
   first-one e h = agree (suc e) e (omega arith) h
+
+-- so the lists of partners are one
+pub first-is-one : {n : ℕ} {edge : Rel} {l l′ : List Unknown} → FirstIs n edge l → FirstIs n edge l′ → length l ≡ length l′ → l ≡ l′
+first-is-one {n} {l = l} {l′} a b e = ext-getD (record { 0 = 0 }) l l′ e (λ i _. ap {B = Unknown} (λ x. record { 0 = x }) (same i))
+  where
+    same : (i : ℕ) → partnerOf l i ≡ partnerOf l′ i
+    same i = test (ltb i n)
+        (λ t. let h = ltb-true i n t in
+        let c = a .numbered i h in let d = b .numbered i h in let s = first-one (a .first) (b .first) i h in omega arith)
+        (λ t. let h = ltb-false i n t in a .beyond i h ∙ sym (b .beyond i h))
 
 -- a choice of unknowns as a relation
 abbrev pub pairs-of : ℕ → (ℕ → ℕ) → Rel

@@ -2,10 +2,12 @@
 pub mod Sizes
 pub mod Give
 pub mod Along
+pub mod Certify
 pub mod Certificate
 pub mod Turn
 pub mod Solve
 pub mod Lists
+pub mod Deficit
 pub mod Choice
 pub mod Hall
 pub mod Looking

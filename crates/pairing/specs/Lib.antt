@@ -5,4 +5,5 @@ pub mod Holders
 pub mod Looking
 pub mod Members
 pub mod Left
+pub mod Contained
 pub mod Choosing

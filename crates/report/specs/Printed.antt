@@ -1,7 +1,7 @@
 -- Document 01, "The printed result": the bytes that the program prints for the bytes of a card. Every line ends in LF.
 use mathlib.Core.Path.{_≡_}
 use mathlib.Core.List.{List, [], _∷_, _++_}
-use Prim.Native.Nat.{ℕ, suc, _*_, _/_, _%_, _<_, _≤_}
+use Prim.Native.Nat.{ℕ, suc, _*_, _/_, _<_, _≤_}
 use Prim.Native.String.{String}
 use lib.Dec.{leb, ltb, eqb}
 use lib.ListN.{length, getD, take, drop, replicate}
@@ -11,6 +11,7 @@ use Rattle.table.specs.Model.{limit}
 use Rattle.card.specs.Text.{LF, comma, digitOf, dec}
 use Rattle.card.specs.Card.{Judged, refused, good, judged}
 use Rattle.analysis.specs.Outcome.{unused, answerBytes, Reply}
+pub use Rattle.analysis.specs.Outcome.{codeIn, rankIn, indexIn, freedomIn}
 
 -- ---- Lines and lists
 
@@ -78,19 +79,7 @@ placeDec n =
 unfoldable pub refusedText : ℕ → ℕ → List ℕ
 refusedText number place = field "refused=" (dec number) ++ field "place=" (placeDec place)
 
--- ---- What the analysis handed back: the bytes of its number, and the strips of its answer
-
-abbrev pub codeIn : ℕ → ℕ
-codeIn number = number % 256
-
-abbrev pub rankIn : ℕ → ℕ
-rankIn number = number / 16777216 % 256
-
-abbrev pub indexIn : ℕ → ℕ
-indexIn number = number / 4294967296 % 256
-
-abbrev pub freedomIn : ℕ → ℕ
-freedomIn number = number / 1099511627776 % 256
+-- ---- What the analysis handed back: the bytes of its number (`codeIn`, ..), and the strips of its answer
 
 -- the first n places of a strip; strips count from 0
 abbrev pub stripIn : ℕ → ℕ → List ℕ → List ℕ
