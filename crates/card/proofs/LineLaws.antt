@@ -2,16 +2,17 @@
 use mathlib.Core.Path.{_≡_, refl, ap, sym, _∙_}
 use mathlib.Core.Bool.{true, false}
 use mathlib.Core.List.{List, [], _∷_}
-use Prim.Native.Nat.{ℕ, suc, _+_, _-_, _*_, _≤_, _<_}
+use Prim.Native.Nat.{ℕ, suc, _+_, _-_, _≤_, _<_}
 use native.Mathlib.Omega.{arith}
 use lib.Dec.{eqb}
-use lib.ListN.{length, take, drop, replicate, length-drop, length-take}
+use lib.ListN.{length, take, drop, length-drop, length-take}
 use lib.Seq.{drop-drop, length-take-le}
 use Rattle.laws.proofs.Tests.{test}
 use Rattle.table.specs.Model.{countedIn}
-use Rattle.card.specs.Text.{LF, rigKey, equationsKey, unknownsKey, begins, Lines, none, cut, line, grown, linesOf, endOf}
+use Rattle.card.specs.Text.{LF, rigKey, equationsKey, unknownsKey, begins, Lines, none, cut, line, grown, linesOf}
 use Rattle.card.specs.Entry.{goodName, valueOf, entryOf}
-use Rattle.card.specs.Card.{refused, behind, rigOf, countSaid, countOf, turnSaid, turnOf, listed, headed, judged}
+use Rattle.card.specs.Card.{refused, behind, rigOf, countSaid, countOf, turnSaid, turnOf, listOf, headed, judged}
+use Rattle.card.specs.Steps.{endOf}
 use Rattle.card.specs.declared.text.Line.{Line}
 use Rattle.card.specs.declared.text.Line.the-variants.{Unended, Ends}
 use Rattle.card.specs.declared.entry.Value.{Value}
@@ -195,7 +196,7 @@ module _ (s name : List ℕ) (at : ℕ) where
     counts-two p = let k = countable s equationsKey at E next first in rw (first, k .on, p)
 
     pub counts-three : {U from : ℕ} → countOf unknownsKey next (linesOf (drop next s)) ≡ Counts U from
-        → headed name at (linesOf (drop at s)) ≡ listed name E U 0 0 0 (replicate (E * U) 0) from (linesOf (drop from s))
+        → headed name at (linesOf (drop at s)) ≡ listOf name E U from (linesOf (drop from s))
     counts-three {U} {from} p = let k = countable s equationsKey at E next first in let l = countable s unknownsKey next U from p in rw (first, k .on, p, l .on)
 
 pub rig-on : (s : List ℕ) {e : ℕ} → rigOf (linesOf s) ≡ Named e → judged s ≡ headed (drop (length rigKey) (take e s)) (e + 1) (linesOf (drop (e + 1) s))

@@ -14,10 +14,10 @@ use Rattle.laws.specs.Tab.{pick}
 use Rattle.laws.proofs.Tests.{test, and-left, and-right}
 use Rattle.table.specs.Model.{limit, inLimits}
 use Rattle.table.proofs.Model.{limits}
-use Rattle.card.specs.Text.{LF, Lines, none, cut, line, grown, linesOf, endOf}
+use Rattle.card.specs.Text.{LF, Lines, none, cut, line, grown, linesOf}
 use Rattle.card.specs.Entry.{entryOf}
-use Rattle.card.specs.Card.{refused, behind, inRange, precedes, turnSaid, turnOf, cell, finished, turned, listed}
-use Rattle.card.specs.Steps.{endSaid, ListRead}
+use Rattle.card.specs.Card.{refused, behind, inRange, notAfter, turnSaid, turnOf, cell, finished, fromTurn, collected, listOf}
+use Rattle.card.specs.Steps.{endOf, endSaid, ListRead}
 use Rattle.card.specs.declared.text.Line.{Line}
 use Rattle.card.specs.declared.text.Line.the-variants.{Unended, Ends}
 use Rattle.card.specs.declared.entry.Entry.{Entry}
@@ -80,19 +80,19 @@ refused-last q = let z : _≡_ {A = ℕ} 0 1 = cc in absurd (omega arith)
 abbrev pub pairOf : ℕ → ℕ → Pair
 pairOf e u = record { equation = record { 0 = e }; unknown = record { 0 = u } }
 
--- an occurs line: its pair is in range, not before the last one, and the code is k + 1
+-- an occurs line: its pair is in range and comes after the last one, and the code is k + 1
 pub record Taking (E U e′ u′ : ℕ) (p : Pair) (code : ℕ) : Type 0 where
   pub k : ℕ
   pub ranged : Ranged E U (p .equation .0) (p .unknown .0) k
   pub code-is : code ≡ k + 1
-  pub after : precedes (p .equation .0) (p .unknown .0) e′ u′ ≡ false
+  pub after : notAfter (p .equation .0) (p .unknown .0) e′ u′ ≡ false
 
 taking : (E U e′ u′ next : ℕ) (en : Entry) {p : Pair} {code n : ℕ} → turnSaid E U e′ u′ next en ≡ Next p code n → Taking E U e′ u′ p code × (next ≡ n)
 taking E U e′ u′ next Shape q = refused-next q
 taking E U e′ u′ next (End m) q = last-next q
 taking E U e′ u′ next (Occurs e u k) {p} {code} {n} q =
     test (inRange E U e u k)
-    (λ t. test (precedes e u e′ u′)
+    (λ t. test (notAfter e u e′ u′)
     (λ b. let f : Refused 15 ≡ Next p code n = rw (t, b) at q in refused-next f)
     (λ b.
     let f : Next (pairOf e u) (k + 1) next ≡ Next p code n = rw (t, b) at q in
@@ -107,7 +107,7 @@ last-said E U e′ u′ next Shape q = refused-last q
 last-said E U e′ u′ next (End m) q = (cc, cc)
 last-said E U e′ u′ next (Occurs e u k) {m} {n} q =
     test (inRange E U e u k)
-    (λ t. test (precedes e u e′ u′)
+    (λ t. test (notAfter e u e′ u′)
     (λ b. let f : Refused 15 ≡ Last m n = rw (t, b) at q in refused-last f)
     (λ b. let f : Next (pairOf e u) (k + 1) next ≡ Last m n = rw (t, b) at q in last-next (sym f)))
     (λ t. let f : Refused 14 ≡ Last m n = rw t at q in refused-last f)
@@ -118,7 +118,7 @@ refused-said E U e′ u′ next Shape {m} q = let z : 11 ≡ m = cc in omega ari
 refused-said E U e′ u′ next (End n) q = refused-last (sym q)
 refused-said E U e′ u′ next (Occurs e u k) {m} q =
     test (inRange E U e u k)
-    (λ t. test (precedes e u e′ u′)
+    (λ t. test (notAfter e u e′ u′)
     (λ b. let f : Refused 15 ≡ Refused m = rw (t, b) at q in let z : 15 ≡ m = cc in omega arith)
     (λ b. let f : Next (pairOf e u) (k + 1) next ≡ Refused m = rw (t, b) at q in refused-next (sym f)))
     (λ t. let f : Refused 14 ≡ Refused m = rw t at q in let z : 14 ≡ m = cc in omega arith)
@@ -164,12 +164,12 @@ turn-last s E U e′ u′ at {m} {n} q = go (endOf at (linesOf (drop at s))) ref
 
 module _ (name : List ℕ) (E U : ℕ) where
   -- a line, and those behind it
-  listed-turn : (n e′ u′ : ℕ) (t : List ℕ) (at : ℕ) (ls : Lines)
-      → listed name E U n e′ u′ t at ls ≡ turned name E U n t at (turnOf E U e′ u′ at ls) (behind ls)
-      (λ e u t next. listed name E U (n + 1) e u t next (behind ls))
-  listed-turn n e′ u′ t at none = refl
-  listed-turn n e′ u′ t at (cut l) = refl
-  listed-turn n e′ u′ t at (line l rest) = refl
+  collected-turn : (n e′ u′ : ℕ) (t : List ℕ) (at : ℕ) (ls : Lines)
+      → collected name E U n e′ u′ t at ls ≡ fromTurn name E U n t at (turnOf E U e′ u′ at ls) (behind ls)
+      (λ e u t next. collected name E U (n + 1) e u t next (behind ls))
+  collected-turn n e′ u′ t at none = refl
+  collected-turn n e′ u′ t at (cut l) = refl
+  collected-turn n e′ u′ t at (line l rest) = refl
 
   -- bytes behind the end line
   pub finished-more : (t : List ℕ) (at : ℕ) (x : List ℕ) → 0 < length x → finished name E U t at (linesOf x) ≡ refused 11 at
@@ -186,8 +186,8 @@ pub record Listing (s : List ℕ) (E U from : ℕ) (t : List ℕ) (last : Pair) 
   pub sized : length t ≡ limit * limit
   pub room : at ≤ length s
   pub fewer : n ≤ at
-  pub same : (name : List ℕ) → listed name E U 0 0 0 (replicate (E * U) 0) from (linesOf (drop from s))
-      ≡ listed name E U n (last .equation .0) (last .unknown .0) (take (E * U) t) at (linesOf (drop at s))
+  pub same : (name : List ℕ) → listOf name E U from (linesOf (drop from s))
+      ≡ collected name E U n (last .equation .0) (last .unknown .0) (take (E * U) t) at (linesOf (drop at s))
 
 take-replicate : (m n : ℕ) → m ≤ n → take m (replicate {A = ℕ} n 0) ≡ replicate m 0
 take-replicate zero n h = refl
@@ -217,7 +217,7 @@ module _ {s : List ℕ} {E U from : ℕ} {t : List ℕ} {last : Pair} {n at : �
         fewer = omega arith;
         same = λ name.
             k .same name
-            ∙ listed-turn name E U n (last .equation .0) (last .unknown .0) (take (E * U) t) at (linesOf (drop at s))
+            ∙ collected-turn name E U n (last .equation .0) (last .unknown .0) (take (E * U) t) at (linesOf (drop at s))
             ∙ rw (q, w .1 .on, take-set-lt (E * U) t (cell U (p .equation .0) (p .unknown .0)) code (cell-within (w .0 .ranged)));
       }
 
@@ -228,18 +228,18 @@ module _ {s : List ℕ} {E U from : ℕ} {t : List ℕ} {last : Pair} {n at : �
       record {
         same = λ name.
             k .same name
-            ∙ listed-turn name E U n (last .equation .0) (last .unknown .0) (take (E * U) t) at (linesOf (drop at s))
+            ∙ collected-turn name E U n (last .equation .0) (last .unknown .0) (take (E * U) t) at (linesOf (drop at s))
             ∙ rw (q, ne-eqb m 0 (λ z. omega arith));
         sized = k .sized;
       }
 
   module _ {m next : ℕ} (q : turnOf E U (last .equation .0) (last .unknown .0) at (linesOf (drop at s)) ≡ Last m next) where
-    ending : (name : List ℕ) → listed name E U 0 0 0 (replicate (E * U) 0) from (linesOf (drop from s))
+    ending : (name : List ℕ) → listOf name E U from (linesOf (drop from s))
         ≡ pick (eqb m n) (finished name E U (take (E * U) t) next (linesOf (drop next s))) (refused 16 at)
     ending name =
         let w = turn-last s E U (last .equation .0) (last .unknown .0) at q in
         k .same name
-        ∙ listed-turn name E U n (last .equation .0) (last .unknown .0) (take (E * U) t) at (linesOf (drop at s))
+        ∙ collected-turn name E U n (last .equation .0) (last .unknown .0) (take (E * U) t) at (linesOf (drop at s))
         ∙ rw (q, w .on)
 
     listing-wrong : (m ≡ n → ⊥) → ListRead s E U from (record { number = 16; place = at; table = t })

@@ -18,7 +18,7 @@ use Rattle.table.proofs.Model.{limits}
 use Rattle.card.specs.Text.{zerosOf, dec}
 use Rattle.card.specs.Entry.{every}
 use Rattle.card.specs.Card.{occursLine, occursLines, occurrences, cardOf}
-use Rattle.card.specs.Steps.{WriteGood}
+use Rattle.card.specs.Promise.{WriteGood}
 use Rattle.card.proofs.PutLaws.{dec-short}
 use Rattle.card.proofs.WriteLaws.{occurs-length, good-fits}
 use Rattle.card.proofs.Written.{small, codes-small}

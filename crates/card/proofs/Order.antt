@@ -9,14 +9,14 @@ use lib.Arith.{digits-div, digits-mod}
 use lib.Dec.{leb, ltb, eqb}
 use borrow.Author.Tests.{le-ltb, ne-eqb, le-leb, lt-leb, ltb-true, ltb-false, eqb-true, eqb-false, leb-true, leb-false}
 use Rattle.laws.proofs.Tests.{test, either}
-use Rattle.card.specs.Card.{precedes, cell}
+use Rattle.card.specs.Card.{notAfter, cell}
 
 -- a whole row lies between the bytes of two equations
 row : (x y U : ℕ) → x < y → x * U + U ≤ y * U
 row x y U h = let z = mul-le-mul-right U h in omega arith
 
 -- document 01's order, by e and then u, is the order of the table's bytes
-pub cells-order : (U e u e′ u′ : ℕ) → 1 ≤ e → 1 ≤ u → u ≤ U → 1 ≤ e′ → 1 ≤ u′ → u′ ≤ U → precedes e u e′ u′ ≡ leb (cell U e u) (cell U e′ u′)
+pub cells-order : (U e u e′ u′ : ℕ) → 1 ≤ e → 1 ≤ u → u ≤ U → 1 ≤ e′ → 1 ≤ u′ → u′ ≤ U → notAfter e u e′ u′ ≡ leb (cell U e u) (cell U e′ u′)
 cells-order U e u e′ u′ a b c a′ b′ c′ =
     test (ltb e e′)
     (λ t. let h = row (e - 1) (e′ - 1) U (omega (arith, ltb-true e e′ t)) in
@@ -65,8 +65,8 @@ pub behind-more : (U c e u : ℕ) → Behind U c e u → Behind U (c + 1) e u
 unfolding Behind
 behind-more U c e u k = either k (λ z. inl z) (λ w. inr (w .0, w .1, w .2, (let l = w .3 in omega arith)))
 
--- such a pair is preceded by no byte from c on, and only by those
-pub behind-after : (U c e′ u′ e u : ℕ) → Behind U c e′ u′ → 1 ≤ e → 1 ≤ u → u ≤ U → c ≤ cell U e u → precedes e u e′ u′ ≡ false
+-- a pair whose byte stands from c on comes after such a pair
+pub behind-after : (U c e′ u′ e u : ℕ) → Behind U c e′ u′ → 1 ≤ e → 1 ≤ u → u ≤ U → c ≤ cell U e u → notAfter e u e′ u′ ≡ false
 unfolding Behind
 behind-after U c e′ u′ e u k a b d l =
     either k

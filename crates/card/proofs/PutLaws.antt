@@ -10,7 +10,7 @@ use borrow.Rule.Slice.PartAt.{part-to-end}
 use lib.Dec.{ltb}
 use Rattle.laws.proofs.Tests.{test}
 use Rattle.card.specs.Text.{digitOf, zerosOf, dec}
-use Rattle.card.specs.Steps.{Laid}
+use Rattle.card.specs.Laid.{Laid}
 
 pub laid-here : (l : List ℕ) (at b : ℕ) → Laid l at (b ∷ []) (set l at b) (at + 1)
 laid-here l at b = record { list = refl; place = refl }

@@ -6,17 +6,18 @@ use Prim.Native.Nat.{ℕ, zero, suc, _+_, _-_, _*_, _≤_, _<_}
 use native.Mathlib.Omega.{arith}
 use native.Mathlib.Numerals.{add-one}
 use denote.Ref.{RefT}
-use lib.ListN.{length, getD, take, drop, set, replicate, length-set}
+use lib.ListN.{length, getD, take, drop, set, length-set}
 use lib.Seq.{paste, paste-zero, paste-suc, take-length, take-nil, length-take-le}
 use borrow.Author.Tests.{eq-eqb, ne-eqb, lt-ltb, le-ltb}
 use Rattle.table.specs.Model.{inLimits}
 use Rattle.card.specs.Text.{rigKey, linesOf}
-use Rattle.card.specs.Card.{refused, good, judged, listed, readOf, tableOf}
-use Rattle.card.specs.Steps.{fromHead, HeadRead, ListRead, RestRead, ReadDone, NamePart}
+use Rattle.card.specs.Card.{refused, good, judged, listOf, readOf, tableOf}
+use Rattle.card.specs.Promise.{ReadDone, NamePart}
+use Rattle.card.specs.Steps.{fromHead, HeadRead, ListRead, RestRead}
 use Rattle.card.specs.declared.Reading.{Reading}
 use Rattle.card.specs.declared.judge.Head.{Head}
 use Rattle.card.specs.declared.judge.Head.the-variants.{Faulty, Start}
-use Rattle.card.specs.declared.list.Listed.{Listed}
+use Rattle.card.specs.declared.list.Collected.{Collected}
 use Rattle.card.proofs.ListLaws.{cells-within}
 
 -- ---- the copy
@@ -49,12 +50,12 @@ copying-end {codes} {before} {now} {i} k h =
 
 -- ---- the lines behind the unknowns line
 
-module _ {s : List ℕ} {E U at : ℕ} {r : Listed} (k : ListRead s E U at r) where
-  pub list-refused : (r .number ≡ 0 → ⊥) → (name : List ℕ) → listed name E U 0 0 0 (replicate (E * U) 0) at (linesOf (drop at s)) ≡ refused
+module _ {s : List ℕ} {E U at : ℕ} {r : Collected} (k : ListRead s E U at r) where
+  pub list-refused : (r .number ≡ 0 → ⊥) → (name : List ℕ) → listOf name E U at (linesOf (drop at s)) ≡ refused
       (r .number) (r .place)
   list-refused h name = k .same name ∙ rw (ne-eqb (r .number) 0 h)
 
-  pub list-good : r .number ≡ 0 → (name : List ℕ) → listed name E U 0 0 0 (replicate (E * U) 0) at (linesOf (drop at s)) ≡ good name E U
+  pub list-good : r .number ≡ 0 → (name : List ℕ) → listOf name E U at (linesOf (drop at s)) ≡ good name E U
       (take (E * U) (r .table))
   list-good h name = k .same name ∙ rw (eq-eqb (r .number) 0 h)
 
@@ -88,7 +89,7 @@ head-faulty : {s : List ℕ} {h : Head} {m at : ℕ} → HeadRead s h → h ≡ 
 head-faulty {s} k e = k .same ∙ ap (fromHead s) e
 
 head-start : {s : List ℕ} {h : Head} {end E U next : ℕ} → HeadRead s h → h ≡ Start end E U next
-    → judged s ≡ listed (drop (length rigKey) (take end s)) E U 0 0 0 (replicate (E * U) 0) next (linesOf (drop next s))
+    → judged s ≡ listOf (drop (length rigKey) (take end s)) E U next (linesOf (drop next s))
 head-start {s} k e = k .same ∙ ap (fromHead s) e
 
 -- what the first three lines say is within the limits
@@ -123,7 +124,7 @@ module _ {card : RefT (List ℕ)} {h : Head} (k : HeadRead (card .now) h) where
   pub name-faulty : {m at g p : ℕ} → h ≡ Faulty m at → p ≡ 0 + card .ptr .1 → NamePart card (record { ptr = (card .ptr .0, p); name = g; now = [] })
   name-faulty e q = record { bytes = rw (head-faulty k e); block = refl; place = rw (head-faulty k e) q }
 
-  module _ {end E U next : ℕ} (e : h ≡ Start end E U next) {r : Listed} (l : ListRead (card .now) E U next r) where
+  module _ {end E U next : ℕ} (e : h ≡ Start end E U next) {r : Collected} (l : ListRead (card .now) E U next r) where
     pub name-refused : {g p : ℕ} → (r .number ≡ 0 → ⊥) → p ≡ 0 + card .ptr .1 → NamePart card (record { ptr = (card .ptr .0, p); name = g; now = [] })
     name-refused n q =
         let w : judged (card .now) ≡ refused (r .number) (r .place) = head-start k e ∙ list-refused l n (drop (length rigKey) (take end (card .now))) in

@@ -13,9 +13,9 @@ use Rattle.laws.proofs.Tests.{test, either, and-both}
 use Rattle.table.specs.Model.{topCode, countedIn}
 use Rattle.card.specs.Text.{LF, comma, rigKey, equationsKey, unknownsKey, occursKey, endKey, begins, dec, Lines, none, cut, line, linesOf}
 use Rattle.card.specs.Entry.{every, goodName, valueOf, entryOf}
-use Rattle.card.specs.Card.{Judged, refused, good, behind, rigOf, countSaid, countOf, inRange, precedes, turnSaid, cell, finished, turned}
-use Rattle.card.specs.Card.{listed, counted, headed, named, judged, lineOf, occursLines, occurrences, cardOf}
-use Rattle.card.specs.Steps.{WriteGood}
+use Rattle.card.specs.Card.{Judged, refused, good, behind, rigOf, countSaid, countOf, inRange, notAfter, turnSaid, cell, finished, fromTurn}
+use Rattle.card.specs.Card.{collected, listOf, fromCount, headed, fromRig, judged, lineOf, occursLines, occurrences, cardOf}
+use Rattle.card.specs.Promise.{WriteGood, IsCard}
 use Rattle.card.specs.declared.entry.Value.{Value}
 use Rattle.card.specs.declared.entry.Value.the-variants.{Other, Says}
 use Rattle.card.specs.declared.entry.Entry.{Entry}
@@ -44,8 +44,8 @@ pub reached-some : (E U e u k : ℕ) → Ranged E U e u k → Reached U (cell U 
 unfolding Reached
 reached-some E U e u k r = inr (r .e-low, r .u-low, r .u-high, refl)
 
--- a pair that does not precede the last one has its byte from c on
-pub reached-after : (E U c e′ u′ e u k : ℕ) → Reached U c e′ u′ → Ranged E U e u k → precedes e u e′ u′ ≡ false → c ≤ cell U e u
+-- a pair that comes after the last one has its byte from c on
+pub reached-after : (E U c e′ u′ e u k : ℕ) → Reached U c e′ u′ → Ranged E U e u k → notAfter e u e′ u′ ≡ false → c ≤ cell U e u
 unfolding Reached
 reached-after E U c e′ u′ e u k h r p =
     either h
@@ -101,7 +101,7 @@ module _ (name : List ℕ) (E U : ℕ) where
 
   Claim : Lines → Type 0
   Claim ls = (p : List ℕ) (n e′ u′ at c m : ℕ) (name′ : List ℕ) (E′ U′ : ℕ) (T : List ℕ) → length p ≡ c → c + m ≡ E * U → Reached U c e′ u′
-      → listed name E U n e′ u′ (p ++ replicate m 0) at ls ≡ good name′ E′ U′ T → Rest p n c m ls name′ E′ U′ T
+      → collected name E U n e′ u′ (p ++ replicate m 0) at ls ≡ good name′ E′ U′ T → Rest p n c m ls name′ E′ U′ T
 
   -- the end line
   end-rest : (p : List ℕ) (n c m at N : ℕ) (l : List ℕ) (rest : Lines) (name′ : List ℕ) (E′ U′ : ℕ) (T : List ℕ) → entryOf l ≡ End N → N ≡ n
@@ -169,9 +169,9 @@ module _ (name : List ℕ) (E U : ℕ) where
       t = p ++ replicate m 0
 
       on : ℕ → ℕ → List ℕ → ℕ → Judged
-      on e u t next = listed name E U (n + 1) e u t next rest
+      on e u t next = collected name E U (n + 1) e u t next rest
 
-      go : (en : Entry) → entryOf l ≡ en → turned name E U n t at (turnSaid E U e′ u′ next en) rest on ≡ good name′ E′ U′ T → Rest p n c m
+      go : (en : Entry) → entryOf l ≡ en → fromTurn name E U n t at (turnSaid E U e′ u′ next en) rest on ≡ good name′ E′ U′ T → Rest p n c m
           (line l rest) name′ E′ U′ T
       go Shape en q = refused-good q
       go (End N) en q =
@@ -180,7 +180,7 @@ module _ (name : List ℕ) (E U : ℕ) where
           (λ h. let f : refused 16 at ≡ good name′ E′ U′ T = rw h at q in refused-good f)
       go (Occurs e u k) en q =
           test (inRange E U e u k)
-          (λ h. test (precedes e u e′ u′)
+          (λ h. test (notAfter e u e′ u′)
           (λ b. let f : refused 15 at ≡ good name′ E′ U′ T = rw (h, b) at q in refused-good f)
           (λ b.
           let ra = ranged E U e u k h in
@@ -190,7 +190,7 @@ module _ (name : List ℕ) (E U : ℕ) where
           let m′ = m - (j + 1) in
           let a : c + j ≡ cell U e u = omega arith in
           let d : j + suc m′ ≡ m = omega arith in
-          let f : listed name E U (n + 1) e u (set t (cell U e u) (k + 1)) next rest ≡ good name′ E′ U′ T = rw (h, b) at q in
+          let f : collected name E U (n + 1) e u (set t (cell U e u) (k + 1)) next rest ≡ good name′ E′ U′ T = rw (h, b) at q in
           let s : set t (cell U e u) (k + 1) ≡ ((p ++ replicate j 0) ++ (k + 1) ∷ []) ++ replicate m′ 0
           = ap (λ i. set (p ++ replicate i 0) (cell U e u) (k + 1)) (sym d) ∙ store p c j m′ (k + 1) (cell U e u) lp a in
           let lp′ : length ((p ++ replicate j 0) ++ (k + 1) ∷ []) ≡ cell U e u + 1
@@ -198,18 +198,18 @@ module _ (name : List ℕ) (E U : ℕ) where
           (let r = length-replicate {A = ℕ} j 0 in omega arith) in
           occurs-rest p n c m j m′ l rest name′ E′ U′ T en ra a d
           (ih ((p ++ replicate j 0) ++ (k + 1) ∷ []) (n + 1) e u next (cell U e u + 1) m′ name′ E′ U′ T lp′ (omega arith) (reached-some E U e u k ra)
-          (ap (λ i. listed name E U (n + 1) e u i next rest) (sym s) ∙ f))))
+          (ap (λ i. collected name E U (n + 1) e u i next rest) (sym s) ∙ f))))
           (λ h. let f : refused 14 at ≡ good name′ E′ U′ T = rw h at q in refused-good f)
 
-  listed-is : (ls : Lines) → Claim ls
+  collected-is : (ls : Lines) → Claim ls
   unfolding Claim
-  listed-is none p n e′ u′ at c m name′ E′ U′ T lp len re q = refused-good q
-  listed-is (cut l) p n e′ u′ at c m name′ E′ U′ T lp len re q = refused-good q
-  listed-is (line l rest) p n e′ u′ at c m name′ E′ U′ T lp len re q = line-rest l rest (listed-is rest) p n e′ u′ at c m name′ E′ U′ T lp len re q
+  collected-is none p n e′ u′ at c m name′ E′ U′ T lp len re q = refused-good q
+  collected-is (cut l) p n e′ u′ at c m name′ E′ U′ T lp len re q = refused-good q
+  collected-is (line l rest) p n e′ u′ at c m name′ E′ U′ T lp len re q = line-rest l rest (collected-is rest) p n e′ u′ at c m name′ E′ U′ T lp len re q
 
 -- ---- the first three lines
 
-uncounted-counts : {A : Type 0} {m n next : ℕ} → Uncounted m ≡ Counts n next → A
+pub uncounted-counts : {A : Type 0} {m n next : ℕ} → Uncounted m ≡ Counts n next → A
 uncounted-counts q = let z : _≡_ {A = ℕ} 0 1 = cc in absurd (omega arith)
 
 count-is : (key : List ℕ) (at : ℕ) (ls : Lines) (n next : ℕ) → countOf key at ls ≡ Counts n next →
@@ -230,7 +230,7 @@ count-is key at (line l rest) n next q = go (valueOf key l) refl q
         (ap (λ x. x ++ LF ∷ textOf rest) (value-is key l m p .0 ∙ ap (λ i. key ++ dec i) z), rw z at h))
         (λ h. let f : Uncounted 13 ≡ Counts n next = rw h at q in uncounted-counts f)
 
-unnamed-named : {A : Type 0} {m e : ℕ} → Unnamed m ≡ Named e → A
+pub unnamed-named : {A : Type 0} {m e : ℕ} → Unnamed m ≡ Named e → A
 unnamed-named q = let z : _≡_ {A = ℕ} 0 1 = cc in absurd (omega arith)
 
 record RigIs (ls : Lines) (e : ℕ) : Type 0 where
@@ -256,10 +256,6 @@ rig-is (line l rest) e q =
 
 -- ---- the theorem
 
-pub record IsCard (s name : List ℕ) (E U : ℕ) (t : List ℕ) : Type 0 where
-  pub bytes : s ≡ cardOf name E U t
-  pub fine : WriteGood name E U t
-
 moved : {nm name r t : List ℕ} {E′ E U′ U : ℕ} → nm ≡ name → E′ ≡ E → U′ ≡ U → t ≡ r → WriteGood nm E′ U′ r → WriteGood name E U t
 moved a b c d g = rw (← a, ← b, ← c, d) g
 
@@ -278,9 +274,9 @@ headed-is nm at ls name E U t fine q = first (countOf equationsKey at ls) refl q
         WriteGood name E U t
 
     both : (E′ U′ at₂ at₃ : ℕ) → countOf equationsKey at ls ≡ Counts E′ at₂ → countOf unknownsKey at₂ (behind ls) ≡ Counts U′ at₃
-        → listed nm E′ U′ 0 0 0 (replicate (E′ * U′) 0) at₃ (behind (behind ls)) ≡ good name E U t → Goal
+        → listOf nm E′ U′ at₃ (behind (behind ls)) ≡ good name E U t → Goal
     both E′ U′ at₂ at₃ p r q =
-        let w = listed-is nm E′ U′ (behind (behind ls)) [] 0 0 0 at₃ 0 (E′ * U′) name E U t refl (omega arith) (reached-none U′) q in
+        let w = collected-is nm E′ U′ (behind (behind ls)) [] 0 0 0 at₃ 0 (E′ * U′) name E U t refl (omega arith) (reached-none U′) q in
         let x = count-is equationsKey at ls E′ at₂ p in
         let y = count-is unknownsKey at₂ (behind ls) U′ at₃ r in
         let z : 0 + occurrences (w .r) ≡ occurrences (w .r) = omega arith in
@@ -304,17 +300,17 @@ headed-is nm at ls name E U t fine q = first (countOf equationsKey at ls) refl q
         )
 
     second : (E′ at₂ : ℕ) → countOf equationsKey at ls ≡ Counts E′ at₂ → (c : Count) → countOf unknownsKey at₂ (behind ls) ≡ c
-        → counted c at₂ (λ U′ at₃. listed nm E′ U′ 0 0 0 (replicate (E′ * U′) 0) at₃ (behind (behind ls))) ≡ good name E U t → Goal
+        → fromCount c at₂ (λ U′ at₃. listOf nm E′ U′ at₃ (behind (behind ls))) ≡ good name E U t → Goal
     second E′ at₂ p (Uncounted m) r q = refused-good q
     second E′ at₂ p (Counts U′ at₃) r q = both E′ U′ at₂ at₃ p r q
 
     first : (c : Count) → countOf equationsKey at ls ≡ c
-        → counted c at (λ E′ at₂. counted (countOf unknownsKey at₂ (behind ls)) at₂
-        (λ U′ at₃. listed nm E′ U′ 0 0 0 (replicate (E′ * U′) 0) at₃ (behind (behind ls)))) ≡ good name E U t → Goal
+        → fromCount c at (λ E′ at₂. fromCount (countOf unknownsKey at₂ (behind ls)) at₂
+        (λ U′ at₃. listOf nm E′ U′ at₃ (behind (behind ls)))) ≡ good name E U t → Goal
     first (Uncounted m) p q = refused-good q
     first (Counts E′ at₂) p q = second E′ at₂ p (countOf unknownsKey at₂ (behind ls)) refl q
 
-card-text : (name : List ℕ) (E U : ℕ) (t : List ℕ)
+pub card-text : (name : List ℕ) (E U : ℕ) (t : List ℕ)
     → (rigKey ++ name) ++ LF ∷ ((equationsKey ++ dec E) ++ LF ∷ ((unknownsKey ++ dec U) ++ LF ∷ rest-of name E U 0 t (occurrences t))) ≡ cardOf name E U t
 unfolding cardOf rest-of
 card-text name E U t = sym (regroup (rigKey ++ name) (equationsKey ++ dec E) (unknownsKey ++ dec U) (occursLines U 0 t)
@@ -324,7 +320,7 @@ card-text name E U t = sym (regroup (rigKey ++ name) (equationsKey ++ dec E) (un
 pub good-card : (s name : List ℕ) (E U : ℕ) (t : List ℕ) → judged s ≡ good name E U t → IsCard s name E U t
 good-card s name E U t q = go (rigOf (linesOf s)) refl q
   where
-    go : (r : Rig) → rigOf (linesOf s) ≡ r → named s r (linesOf s) ≡ good name E U t → IsCard s name E U t
+    go : (r : Rig) → rigOf (linesOf s) ≡ r → fromRig s r (linesOf s) ≡ good name E U t → IsCard s name E U t
     go (Unnamed m) p q = refused-good q
     go (Named e) p q =
         let k = rig-is (linesOf s) e p in

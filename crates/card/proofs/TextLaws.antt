@@ -11,7 +11,8 @@ use lib.Seq.{drop-cons}
 use borrow.Author.Tests.{eq-eqb, ne-eqb, leb-true}
 use Rattle.laws.specs.Tab.{pick}
 use Rattle.laws.proofs.Tests.{test, and-left, and-right}
-use Rattle.card.specs.Text.{begins, isDigit, digitsOf, numberOf, Lines, none, cut, line, grown, linesOf, endOf, LF}
+use Rattle.card.specs.Text.{begins, isDigit, digitsOf, numberOf, Lines, none, cut, line, grown, linesOf, LF}
+use Rattle.card.specs.Steps.{endOf}
 use Rattle.card.specs.declared.text.Number.the-variants.{Missing, Is}
 use Rattle.card.specs.declared.text.Line.the-variants.{Unended, Ends}
 

@@ -1,26 +1,26 @@
--- What the promises of `read`, `write` and `name_of` come to: one outcome each, both round trips, which inputs are good,
--- what a refusal leaves alone, and the bounds of every number.
+-- What the promises of `read`, `write` and `name_of` come to: one outcome each, which inputs are good, what succeeds and what a refusal leaves alone,
+-- both round trips, and the bounds of every number. Each goes by the cases of `judged`, or by the writer's tests one after another.
 use mathlib.Core.Path.{_≡_, refl, ap, sym, _∙_}
 use mathlib.Core.List.{List, [], _∷_, _++_}
 use mathlib.Core.Logic.{_↔_}
-use Prim.Native.Nat.{ℕ, _*_, _≤_}
+use Prim.Native.Nat.{ℕ, _+_, _*_, _≤_}
 use native.Mathlib.Omega.{arith}
 use denote.Ref.{RefT}
 use lib.Dec.{leb, ltb, eqb}
-use lib.ListN.{length, take, drop}
+use lib.ListN.{length, take, drop, length-append}
 use lib.Seq.{take-at}
-use borrow.Author.Tests.{ne-eqb, eqb-true, le-ltb, le-leb, leb-true, ltb-false}
+use borrow.Author.Tests.{ne-eqb, eqb-true, le-ltb, le-leb, ltb-false}
 use Rattle.laws.proofs.Tests.{test}
 use Rattle.table.specs.Model.{limit, inLimits, firstAbove}
 use Rattle.table.proofs.Model.{limits}
 use Rattle.card.specs.Entry.{goodName}
-use Rattle.card.specs.Card.{Judged, refused, good, judged, readOf, tableOf, nameOf, cardOf, wroteNone, writeOf, cardAfter}
-use Rattle.card.specs.Steps.{ReadDone, NamePart, WriteGood, WriteDone}
+use Rattle.card.specs.Card.{Judged, refused, good, judged, readOf, tableOf, nameOf, nameAt, cardOf, wroteNone, cardAfter}
+use Rattle.card.specs.Promise.{WriteGood, IsCard, ReadDone, NamePart, WriteDone}
 use Rattle.card.specs.declared.Reading.{Reading}
 use Rattle.card.specs.declared.Writing.{Writing}
 use Rattle.card.proofs.ListLaws.{cells-within}
 use Rattle.card.proofs.Written.{written-good}
-use Rattle.card.proofs.Readable.{IsCard, good-card}
+use Rattle.card.proofs.Readable.{card-text, good-card}
 use Rattle.card.proofs.Longest.{longest, card-length}
 use Rattle.card.proofs.Places.{places}
 
@@ -56,6 +56,14 @@ pub record Says (s : List ℕ) : Type 0 where
 
 -- ---- reading
 
+-- a good card with room for its table is read: 0 and 0, its E and U, and its codes in front of what stood behind them
+pub read-succeeds : {s name t before after : List ℕ} {E U : ℕ} {r : Reading} → IsCard s name E U t → E * U ≤ length before → ReadDone s before r after
+    → (r ≡ record { number = 0; place = 0; equations = E; unknowns = U }) × (after ≡ t ++ drop (E * U) before)
+read-succeeds {s} {name} {t} {before} {after} {E} {U} i h k =
+    let j = good-exactly s name E U t .1 i in
+    let l = le-ltb (length before) (E * U) h in
+    (k .answer ∙ rw (j, l), k .bytes ∙ rw (j, l))
+
 -- number 0: the card is good, there is room, and these are the answer and the bytes
 pub record ReadGood (s before : List ℕ) (r : Reading) (after : List ℕ) : Type 0 where
   pub says : Says s
@@ -80,19 +88,19 @@ read-good {s} {before} {after} {r} k z = go (judged s) refl
         absurd (omega (arith, l .from))
     go (good name E U t) p =
         let a : r ≡ readOf (length before) (good name E U t) = k .answer ∙ ap (readOf (length before)) p in
-        let c : after ≡ tableOf before (good name E U t) = k .bytes ∙ ap (tableOf before) p in
         let i = good-card s name E U t p in
         test (ltb (length before) (E * U))
         (λ h. let d : r ≡ record { number = 17; place = 0; equations = 0; unknowns = 0 } = rw h at a in seventeen (ap (λ x. x .number) d) z)
         (λ h.
-        let d : r ≡ record { number = 0; place = 0; equations = E; unknowns = U } = rw h at a in
+        let room = ltb-false (length before) (E * U) h in
+        let (d, b) = read-succeeds i room k in
         record {
           says = record { name = name; E = E; U = U; t = t; is = p };
           card = i;
           equations = ap (λ x. x .equations) d;
           unknowns = ap (λ x. x .unknowns) d;
-          room = ltb-false (length before) (E * U) h;
-          bytes = rw h at c;
+          room = room;
+          bytes = b;
           sized = eqb-true (length t) (E * U) (i .fine .sized);
         })
 
@@ -113,123 +121,47 @@ read-refused {s} {before} {after} {r} k n = go (judged s) refl
         (rw h at c, ap (λ x. x .equations) d, ap (λ x. x .unknowns) d))
         (λ h. let d : r ≡ record { number = 0; place = 0; equations = E; unknowns = U } = rw h at a in absurd (n (ap (λ x. x .number) d)))
 
--- the bounds by which every answer fits what is printed and packed
-pub record ReadFits (r : Reading) : Type 0 where
+-- the bounds by which every answer fits what is printed and packed; a place is at most the input's length, too
+pub record ReadFits (s : List ℕ) (r : Reading) : Type 0 where
   pub number : r .number ≤ 17
   pub place : r .place ≤ longest
+  pub within : r .place ≤ length s
   pub equations : r .equations ≤ limit
   pub unknowns : r .unknowns ≤ limit
 
-pub read-fits : {s before after : List ℕ} {r : Reading} → ReadDone s before r after → ReadFits r
+pub read-fits : {s before after : List ℕ} {r : Reading} → ReadDone s before r after → ReadFits s r
 read-fits {s} {before} {after} {r} k = go (judged s) refl
   where
-    at-most : {x : Reading} → r ≡ x → ReadFits x → ReadFits r
+    at-most : {x : Reading} → r ≡ x → ReadFits s x → ReadFits s r
     at-most e f = rw e f
 
-    go : (j : Judged) → judged s ≡ j → ReadFits r
+    go : (j : Judged) → judged s ≡ j → ReadFits s r
     go (refused m at) p =
         let l = places s m at p in
         at-most (k .answer ∙ ap (readOf (length before)) p) (record
-        { number = let h = l .to in omega arith; place = l .place; equations = omega arith; unknowns = omega arith })
+        { number = let h = l .to in omega arith; place = l .place; within = l .within; equations = omega arith; unknowns = omega arith })
     go (good name E U t) p =
         let a : r ≡ readOf (length before) (good name E U t) = k .answer ∙ ap (readOf (length before)) p in
         let i = good-card s name E U t p in
         let b = limits E U (i .fine .limits) in
         test (ltb (length before) (E * U))
-        (λ h. at-most (rw h at a) (record { number = omega arith; place = omega arith; equations = omega arith; unknowns = omega arith }))
-        (λ h. at-most (rw h at a) (record { number = omega arith; place = omega arith; equations = b .0 .high; unknowns = b .1 .high }))
+        (λ h. at-most (rw h at a) (record { number = omega arith; place = omega arith; within = omega arith; equations = omega arith; unknowns = omega arith }))
+        (λ h. at-most (rw h at a) (record { number = omega arith; place = omega arith; within = omega arith; equations = b .0 .high; unknowns = b .1 .high }))
 
 -- ---- writing
 
--- number 0: nothing applies, there is room, and these are the bytes
-pub record WroteGood (name : List ℕ) (E U : ℕ) (t before : List ℕ) (r : Writing) (after : List ℕ) : Type 0 where
-  pub fine : WriteGood name E U t
-  pub room : length (cardOf name E U t) ≤ length before
-  pub length-is : r .length ≡ length (cardOf name E U t)
-  pub bytes : after ≡ cardOf name E U t ++ drop (length (cardOf name E U t)) before
-
-none-written : {A : Type 0} {m at : ℕ} {r : Writing} → r ≡ wroteNone m at → (m ≡ 0 → ⊥) → r .number ≡ 0 → A
-none-written e n z = absurd (n (sym (ap (λ x. x .number) e) ∙ z))
-
-pub write-good : {name t before after : List ℕ} {E U : ℕ} {r : Writing} → WriteDone name E U t before r after → r .number ≡ 0 → WroteGood name E U t
-    before r after
-write-good {name} {t} {before} {after} {E} {U} {r} k z =
-    test (goodName name)
-    (λ a. test (inLimits E U)
-    (λ b. test (eqb (length t) (E * U))
-    (λ c. test (eqb (firstAbove t) (length t))
-    (λ d. test (leb (length (cardOf name E U t)) (length before))
-    (λ e.
-    let w : r ≡ record { number = 0; place = 0; length = length (cardOf name E U t) } = rw (a, b, c, d, e) at (k .answer) in
-    record {
-      fine = record { named = a; limits = b; sized = c; codes = d };
-      room = leb-true (length (cardOf name E U t)) (length before) e;
-      length-is = ap (λ x. x .length) w;
-      bytes = k .bytes ∙ ap (λ x. cardAfter before x (cardOf name E U t)) w;
-    })
-    (λ e. none-written (rw (a, b, c, d, e) at (k .answer)) (λ y. omega arith) z))
-    (λ d. none-written (rw (a, b, c, d) at (k .answer)) (λ y. omega arith) z))
-    (λ c. none-written (rw (a, b, c) at (k .answer)) (λ y. omega arith) z))
-    (λ b. none-written (rw (a, b) at (k .answer)) (λ y. omega arith) z))
-    (λ a. none-written (rw a at (k .answer)) (λ y. omega arith) z)
+-- a good name and table with room for their card are written: 0 and 0, the card's length, and the card in front of what stood behind it
+pub write-succeeds : {name t before after : List ℕ} {E U : ℕ} {r : Writing} → WriteGood name E U t → length (cardOf name E U t) ≤ length before
+    → WriteDone name E U t before r after
+    → (r ≡ record { number = 0; place = 0; length = length (cardOf name E U t) }) × (after ≡ cardOf name E U t ++ drop (length (cardOf name E U t)) before)
+write-succeeds {name} {t} {before} {after} {E} {U} {r} g h k =
+    let e : r ≡ record { number = 0; place = 0; length = length (cardOf name E U t) }
+    = k .answer ∙ rw (g .named, g .limits, g .sized, g .codes, le-leb (length (cardOf name E U t)) (length before) h) in
+    (e, k .bytes ∙ ap (λ x. cardAfter before x (cardOf name E U t)) e)
 
 -- any other number: no card byte has changed
 pub write-refused : {name t before after : List ℕ} {E U : ℕ} {r : Writing} → WriteDone name E U t before r after → (r .number ≡ 0 → ⊥) → after ≡ before
 write-refused {name} {t} {before} {after} {E} {U} {r} k n = k .bytes ∙ rw (ne-eqb (r .number) 0 n)
-
--- with nothing that applies and room enough it is written
-pub write-succeeds : {name t before after : List ℕ} {E U : ℕ} {r : Writing} → WriteDone name E U t before r after → WriteGood name E U t → length
-    (cardOf name E U t) ≤ length before → r .number ≡ 0
-write-succeeds {name} {t} {before} {after} {E} {U} {r} k g h =
-    let a : writeOf (length before) name E U t ≡ record { number = 0; place = 0; length = length (cardOf name E U t) }
-    = rw (g .named, g .limits, g .sized, g .codes, le-leb (length (cardOf name E U t)) (length before) h) in
-    ap (λ x. x .number) (k .answer ∙ a)
-
--- ---- there and back
-
-moved : {name name′ t t′ before after : List ℕ} {E E′ U U′ : ℕ} {w : Writing} → name′ ≡ name → E′ ≡ E → U′ ≡ U → t′ ≡ t → WriteDone name′ E′ U′ t′
-    before w after → WriteDone name E U t before w after
-moved a b c d k = rw (a, b, c, d) at k
-
--- a good card read and written again has the same bytes
-pub card-again : {s table table′ before after : List ℕ} {r : Reading} {w : Writing} → ReadDone s table r table′ → r .number ≡ 0
-    → WriteDone (nameOf (judged s)) (r .equations) (r .unknowns) (take (r .equations * r .unknowns) table′) before w after → length s ≤ length before
-    → (w .number ≡ 0) × (w .length ≡ length s) × (take (length s) after ≡ s)
-card-again {s} {table} {table′} {before} {after} {r} {w} k z l room =
-    let g = read-good k z in
-    let y = g .says in
-    let b : s ≡ cardOf (y .name) (y .E) (y .U) (y .t) = g .card .bytes in
-    let a : take (r .equations * r .unknowns) table′ ≡ y .t
-    = ap (λ i. take (i * r .unknowns) table′) (g .equations) ∙ ap (λ i. take (y .E * i) table′) (g .unknowns) ∙ ap (take (y .E * y .U)) (g .bytes)
-    ∙ take-at (y .t) (drop (y .E * y .U) table) (y .E * y .U) (g .sized) in
-    let v = moved (ap nameOf (y .is)) (g .equations) (g .unknowns) a l in
-    let c : length s ≡ length (cardOf (y .name) (y .E) (y .U) (y .t)) = ap length b in
-    let n = write-succeeds v (g .card .fine) (omega arith) in
-    let o = write-good v n in (
-      n,
-      o .length-is ∙ sym c,
-      ap (take (length s)) (o .bytes) ∙ take-at (cardOf (y .name) (y .E) (y .U) (y .t))
-          (drop (length (cardOf (y .name) (y .E) (y .U) (y .t))) before) (length s) (sym c) ∙ sym b,
-    )
-
--- a good name and table written and read again come back the same, and the name question gives that name
-pub table-again : {name t before after table table′ : List ℕ} {E U : ℕ} {w : Writing} {r : Reading} → WriteDone name E U t before w after → w .number ≡ 0
-    → ReadDone (take (w .length) after) table r table′ → E * U ≤ length table
-    → (r .number ≡ 0) × (r .equations ≡ E) × (r .unknowns ≡ U) × (take (E * U) table′ ≡ t) × (nameOf (judged (take (w .length) after)) ≡ name)
-table-again {name} {t} {before} {after} {table} {table′} {E} {U} {w} {r} k z l room =
-    let o = write-good k z in
-    let c : take (w .length) after ≡ cardOf name E U t
-    = ap (take (w .length)) (o .bytes) ∙ take-at (cardOf name E U t) (drop (length (cardOf name E U t)) before) (w .length) (sym (o .length-is)) in
-    let j : judged (take (w .length) after) ≡ good name E U t = ap judged c ∙ written-good name E U t (o .fine) in
-    let a : r ≡ record { number = 0; place = 0; equations = E; unknowns = U } = l .answer ∙ ap (readOf (length table)) j ∙ rw
-    (le-ltb (length table) (E * U) room) in
-    let b : table′ ≡ t ++ drop (E * U) table = l .bytes ∙ ap (tableOf table) j ∙ rw (le-ltb (length table) (E * U) room) in (
-      ap (λ x. x .number) a,
-      ap (λ x. x .equations) a,
-      ap (λ x. x .unknowns) a,
-      ap (take (E * U)) b ∙ take-at t (drop (E * U) table) (E * U) (eqb-true (length t) (E * U) (o .fine .sized)),
-      ap nameOf j,
-    )
 
 -- the bounds by which every answer of the writer fits what is printed and packed
 pub record WriteFits (r : Writing) : Type 0 where
@@ -262,3 +194,86 @@ write-fits {name} {t} {before} {after} {E} {U} {r} k =
     above-within : (l : List ℕ) → firstAbove l ≤ length l
     above-within [] = omega arith
     above-within (x ∷ l) = let h = above-within l in test (leb x 4) (λ y. rw y (omega arith)) (λ y. rw y (omega arith))
+
+-- ---- the name question
+
+-- what it gives are the bytes that stand in the card at the part's place
+pub record NameLies (s : List ℕ) : Type 0 where
+  pub within : nameAt (judged s) + length (nameOf (judged s)) ≤ length s
+  pub bytes : take (length (nameOf (judged s))) (drop (nameAt (judged s)) s) ≡ nameOf (judged s)
+
+pub name-lies : (s : List ℕ) → NameLies s
+name-lies s = go (judged s) refl
+  where
+    go : (j : Judged) → judged s ≡ j → NameLies s
+    go (refused m at) p = record { within = rw p (omega arith); bytes = rw p }
+    go (good name E U t) p =
+        let e = good-card s name E U t p .bytes ∙ sym (card-text name E U t) in
+        record {
+          within = rw p (omega (arith, simp length-append at (ap length e)));
+          bytes = rw p (ap (λ x. take (length name) (drop 4 x)) e ∙ take-at name _ (length name) refl);
+        }
+
+-- of a good card it is the name
+pub name-succeeds : {card part : RefT (List ℕ)} {name t : List ℕ} {E U : ℕ} → IsCard (card .now) name E U t → NamePart card part → part .now ≡ name
+name-succeeds {card} {part} {name} {t} {E} {U} i k = k .bytes ∙ ap nameOf (good-exactly (card .now) name E U t .1 i)
+
+-- ---- there and back
+
+moved : {name name′ t t′ before after : List ℕ} {E E′ U U′ : ℕ} {w : Writing} → name′ ≡ name → E′ ≡ E → U′ ≡ U → t′ ≡ t → WriteDone name′ E′ U′ t′
+    before w after → WriteDone name E U t before w after
+moved a b c d k = rw (a, b, c, d) at k
+
+-- a card s was read and written again: both numbers are 0, the length is that of s, and the bytes are s in front of what stood behind them
+pub record CardAgain (s before : List ℕ) (read written long : ℕ) (after : List ℕ) : Type 0 where
+  pub good-read : read ≡ 0
+  pub good-written : written ≡ 0
+  pub same-length : long ≡ length s
+  pub same-bytes : after ≡ s ++ drop (length s) before
+
+-- with room enough, a good card read and written again has the same bytes
+pub card-again : {card part : RefT (List ℕ)} {name t table table′ before after : List ℕ} {E U : ℕ} {r : Reading} {w : Writing}
+    → IsCard (card .now) name E U t → E * U ≤ length table → length (card .now) ≤ length before
+    → ReadDone (card .now) table r table′ → NamePart card part
+    → WriteDone (part .now) (r .equations) (r .unknowns) (take (r .equations * r .unknowns) table′) before w after
+    → CardAgain (card .now) before (r .number) (w .number) (w .length) after
+card-again {card} {part} {name} {t} {table} {table′} {before} {after} {E} {U} {r} {w} i h h′ k n l =
+    let (a, b) = read-succeeds i h k in
+    let c : take (r .equations * r .unknowns) table′ ≡ t = rw (a, b) (take-at t (drop (E * U) table) (E * U) (eqb-true (length t) (E * U) (i .fine .sized))) in
+    let v = moved (name-succeeds i n) (ap (λ x. x .equations) a) (ap (λ x. x .unknowns) a) c l in
+    let (d, e) = write-succeeds (i .fine) (rw (i .bytes) at h′) v in
+    record {
+      good-read = ap (λ x. x .number) a;
+      good-written = ap (λ x. x .number) d;
+      same-length = rw (i .bytes) (ap (λ x. x .length) d);
+      same-bytes = rw (i .bytes) e;
+    }
+
+-- a name and a table t were written and read again: both numbers are 0, E and U are the same, the codes are t in front of what stood behind them,
+-- and the part is the name
+pub record TableAgain (name : List ℕ) (E U : ℕ) (t table : List ℕ) (written read equations unknowns : ℕ) (after part : List ℕ) : Type 0 where
+  pub good-written : written ≡ 0
+  pub good-read : read ≡ 0
+  pub same-E : equations ≡ E
+  pub same-U : unknowns ≡ U
+  pub same-codes : after ≡ t ++ drop (E * U) table
+  pub same-name : part ≡ name
+
+-- with room enough, a good table and name written and read again come back the same
+pub table-again : {card part : RefT (List ℕ)} {name t table table′ before after : List ℕ} {E U : ℕ} {r : Reading} {w : Writing}
+    → WriteGood name E U t → length (cardOf name E U t) ≤ length before → E * U ≤ length table
+    → WriteDone name E U t before w after → card .now ≡ take (w .length) after → ReadDone (card .now) table r table′ → NamePart card part
+    → TableAgain name E U t table (w .number) (r .number) (r .equations) (r .unknowns) table′ (part .now)
+table-again {card} {part} {name} {t} {table} {table′} {before} {after} {E} {U} {r} {w} g h h′ k e l n =
+    let (a, b) = write-succeeds g h k in
+    let c = cardOf name E U t in
+    let i : IsCard (card .now) name E U t = record { bytes = e ∙ rw (a, b) (take-at c (drop (length c) before) (length c) refl); fine = g } in
+    let (d, f) = read-succeeds i h′ l in
+    record {
+      good-written = ap (λ x. x .number) a;
+      good-read = ap (λ x. x .number) d;
+      same-E = ap (λ x. x .equations) d;
+      same-U = ap (λ x. x .unknowns) d;
+      same-codes = f;
+      same-name = name-succeeds i n;
+    }

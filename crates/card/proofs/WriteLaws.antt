@@ -16,7 +16,8 @@ use Rattle.table.proofs.Model.{limits}
 use Rattle.card.specs.Text.{LF, comma, rigKey, equationsKey, unknownsKey, occursKey, endKey, dec}
 use Rattle.card.specs.Entry.{nameByte, every, goodName}
 use Rattle.card.specs.Card.{lineOf, occursLine, occursLines, occurrences, cardOf, wroteNone}
-use Rattle.card.specs.Steps.{Laid, WriteGood, WriteDone}
+use Rattle.card.specs.Promise.{WriteGood, WriteDone}
+use Rattle.card.specs.Laid.{Laid}
 use Rattle.card.specs.declared.Writing.{Writing}
 use Rattle.card.proofs.PutLaws.{laid-then, dec-short}
 

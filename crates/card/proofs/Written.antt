@@ -13,9 +13,9 @@ use Rattle.table.specs.Model.{limit, topCode, countedIn, inLimits, firstAbove}
 use Rattle.table.proofs.Model.{limits}
 use Rattle.card.specs.Text.{LF, comma, rigKey, equationsKey, unknownsKey, occursKey, endKey, dec, Lines, none, line, linesOf}
 use Rattle.card.specs.Entry.{nameByte, every, entryOf}
-use Rattle.card.specs.Card.{good, rigOf, countSaid, countOf, inRange, precedes, cell, listed, headed, named, judged, lineOf, occursLines}
+use Rattle.card.specs.Card.{good, rigOf, countSaid, countOf, inRange, notAfter, cell, collected, listOf, headed, fromRig, judged, lineOf, occursLines}
 use Rattle.card.specs.Card.{occurrences, cardOf}
-use Rattle.card.specs.Steps.{WriteGood}
+use Rattle.card.specs.Promise.{WriteGood}
 use Rattle.card.specs.declared.entry.Entry.the-variants.{Occurs, End}
 use Rattle.card.specs.declared.judge.Rig.the-variants.{Named}
 use Rattle.card.specs.declared.judge.Count.the-variants.{Counts}
@@ -50,12 +50,12 @@ few (x ∷ t) = let l = few t in test (eqb x 0) (λ z. rw z (omega arith)) (λ z
 -- ---- the occurs lines and the end line
 
 module _ (name : List ℕ) (E U : ℕ) where
-  listed-occurs : (n e′ u′ at : ℕ) (t l : List ℕ) (rest : Lines) {e u k : ℕ} → entryOf l ≡ Occurs e u k → inRange E U e u k ≡ true → precedes e u e′ u′ ≡ false
-      → listed name E U n e′ u′ t at (line l rest) ≡ listed name E U (n + 1) e u (set t (cell U e u) (k + 1)) (at + length l + 1) rest
-  listed-occurs n e′ u′ at t l rest p q r = rw (p, q, r)
+  collected-occurs : (n e′ u′ at : ℕ) (t l : List ℕ) (rest : Lines) {e u k : ℕ} → entryOf l ≡ Occurs e u k → inRange E U e u k ≡ true → notAfter e u e′ u′ ≡ false
+      → collected name E U n e′ u′ t at (line l rest) ≡ collected name E U (n + 1) e u (set t (cell U e u) (k + 1)) (at + length l + 1) rest
+  collected-occurs n e′ u′ at t l rest p q r = rw (p, q, r)
 
-  listed-end : (n e′ u′ at N : ℕ) (t l : List ℕ) → entryOf l ≡ End N → N ≡ n → listed name E U n e′ u′ t at (line l none) ≡ good name E U t
-  listed-end n e′ u′ at N t l p q = rw (p, eq-eqb N n q)
+  collected-end : (n e′ u′ at N : ℕ) (t l : List ℕ) → entryOf l ≡ End N → N ≡ n → collected name E U n e′ u′ t at (line l none) ≡ good name E U t
+  collected-end n e′ u′ at N t l p q = rw (p, eq-eqb N n q)
 
   -- the text of the codes r from byte c on
   unfoldable pub rest-of : ℕ → List ℕ → ℕ → List ℕ
@@ -76,19 +76,19 @@ module _ (name : List ℕ) (E U : ℕ) where
 
   -- a byte of the table whose code is 0 is passed over
   zero-step : (p r : List ℕ) (c x N n e′ u′ at : ℕ) → eqb x 0 ≡ true
-      → listed name E U n e′ u′ ((p ++ 0 ∷ []) ++ replicate (length r) 0) at (linesOf (rest-of (c + 1) r N)) ≡ good name E U ((p ++ 0 ∷ []) ++ r)
-      → listed name E U n e′ u′ (p ++ 0 ∷ replicate (length r) 0) at (linesOf (rest-of c (x ∷ r) N)) ≡ good name E U (p ++ x ∷ r)
+      → collected name E U n e′ u′ ((p ++ 0 ∷ []) ++ replicate (length r) 0) at (linesOf (rest-of (c + 1) r N)) ≡ good name E U ((p ++ 0 ∷ []) ++ r)
+      → collected name E U n e′ u′ (p ++ 0 ∷ replicate (length r) 0) at (linesOf (rest-of c (x ∷ r) N)) ≡ good name E U (p ++ x ∷ r)
   zero-step p r c x N n e′ u′ at h w =
-      ap (λ t. listed name E U n e′ u′ t at (linesOf (rest-of c (x ∷ r) N))) (sym (append-assoc p (0 ∷ []) (replicate (length r) 0)))
-      ∙ ap (λ s. listed name E U n e′ u′ ((p ++ 0 ∷ []) ++ replicate (length r) 0) at (linesOf s)) (rest-none c x r N h)
+      ap (λ t. collected name E U n e′ u′ t at (linesOf (rest-of c (x ∷ r) N))) (sym (append-assoc p (0 ∷ []) (replicate (length r) 0)))
+      ∙ ap (λ s. collected name E U n e′ u′ ((p ++ 0 ∷ []) ++ replicate (length r) 0) at (linesOf s)) (rest-none c x r N h)
       ∙ w ∙ ap (good name E U) (append-assoc p (0 ∷ []) r ∙ ap (λ y. p ++ y ∷ r) (sym (eqb-true x 0 h)))
 
   -- any other has its line, which says its pair and its code
   some-step : (p r : List ℕ) (c x N n e′ u′ at : ℕ) → length p ≡ c → eqb x 0 ≡ false → c / U + 1 ≤ 9999 → c % U + 1 ≤ 9999 → x - 1 ≤ 9999
-      → inRange E U (c / U + 1) (c % U + 1) (x - 1) ≡ true → precedes (c / U + 1) (c % U + 1) e′ u′ ≡ false
-      → ((next : ℕ) → listed name E U (n + 1) (c / U + 1) (c % U + 1) ((p ++ x ∷ []) ++ replicate (length r) 0) next (linesOf (rest-of (c + 1) r N))
+      → inRange E U (c / U + 1) (c % U + 1) (x - 1) ≡ true → notAfter (c / U + 1) (c % U + 1) e′ u′ ≡ false
+      → ((next : ℕ) → collected name E U (n + 1) (c / U + 1) (c % U + 1) ((p ++ x ∷ []) ++ replicate (length r) 0) next (linesOf (rest-of (c + 1) r N))
       ≡ good name E U ((p ++ x ∷ []) ++ r))
-      → listed name E U n e′ u′ (p ++ 0 ∷ replicate (length r) 0) at (linesOf (rest-of c (x ∷ r) N)) ≡ good name E U (p ++ x ∷ r)
+      → collected name E U n e′ u′ (p ++ 0 ∷ replicate (length r) 0) at (linesOf (rest-of c (x ∷ r) N)) ≡ good name E U (p ++ x ∷ r)
   some-step p r c x N n e′ u′ at lp h a b d ran aft w =
       let e = c / U + 1 in let u = c % U + 1 in let k = x - 1 in
       let l = occursKey ++ dec e ++ comma ∷ dec u ++ comma ∷ dec k in
@@ -96,10 +96,10 @@ module _ (name : List ℕ) (E U : ℕ) where
       let stored : set (p ++ 0 ∷ replicate (length r) 0) (cell U e u) (k + 1) ≡ (p ++ x ∷ []) ++ replicate (length r) 0
       = ap (λ i. set (p ++ 0 ∷ replicate (length r) 0) i (k + 1)) (cell-of U c) ∙ ap (set (p ++ 0 ∷ replicate (length r) 0) c) z
       ∙ set-at p 0 (replicate (length r) 0) x c lp ∙ sym (append-assoc p (x ∷ []) (replicate (length r) 0)) in
-      ap (listed name E U n e′ u′ (p ++ 0 ∷ replicate (length r) 0) at)
+      ap (collected name E U n e′ u′ (p ++ 0 ∷ replicate (length r) 0) at)
       (ap linesOf (rest-some c x r N h) ∙ lines-of l (rest-of (c + 1) r N) (occurs-clear e u k a b d))
-      ∙ listed-occurs n e′ u′ at (p ++ 0 ∷ replicate (length r) 0) l (linesOf (rest-of (c + 1) r N)) (entry-occurs e u k a b d) ran aft
-      ∙ ap (λ t. listed name E U (n + 1) e u t (at + length l + 1) (linesOf (rest-of (c + 1) r N))) stored
+      ∙ collected-occurs n e′ u′ at (p ++ 0 ∷ replicate (length r) 0) l (linesOf (rest-of (c + 1) r N)) (entry-occurs e u k a b d) ran aft
+      ∙ ap (λ t. collected name E U (n + 1) e u t (at + length l + 1) (linesOf (rest-of (c + 1) r N))) stored
       ∙ w (at + length l + 1) ∙ ap (good name E U) (append-assoc p (x ∷ []) r)
 
   -- a byte within the table, its code at most 4, has a pair in range
@@ -111,14 +111,14 @@ module _ (name : List ℕ) (E U : ℕ) where
       (and-both (le-leb 1 (c % U + 1) (omega arith)) (le-leb (c % U + 1) U (k .u-high)))) (le-leb (x - 1) 3 (omega arith))
 
   module _ (lim : inLimits E U ≡ true) where
-    listed-reads : (r p : List ℕ) (n e′ u′ at N c : ℕ) → length p ≡ c → c + length r ≡ E * U → every small r ≡ true → Behind U c e′ u′ → N ≡ n +
+    collected-reads : (r p : List ℕ) (n e′ u′ at N c : ℕ) → length p ≡ c → c + length r ≡ E * U → every small r ≡ true → Behind U c e′ u′ → N ≡ n +
         occurrences r → N ≤ 9999
-        → listed name E U n e′ u′ (p ++ replicate (length r) 0) at (linesOf (rest-of c r N)) ≡ good name E U (p ++ r)
+        → collected name E U n e′ u′ (p ++ replicate (length r) 0) at (linesOf (rest-of c r N)) ≡ good name E U (p ++ r)
     unfolding rest-of
-    listed-reads [] p n e′ u′ at N c lp len sm bh cnt top =
-        ap (listed name E U n e′ u′ (p ++ []) at) (lines-of (endKey ++ dec N) [] (value-clear endKey N refl top))
-        ∙ listed-end n e′ u′ at N (p ++ []) (endKey ++ dec N) (entry-ended N top) (omega arith)
-    listed-reads (x ∷ r) p n e′ u′ at N c lp len sm bh cnt top =
+    collected-reads [] p n e′ u′ at N c lp len sm bh cnt top =
+        ap (collected name E U n e′ u′ (p ++ []) at) (lines-of (endKey ++ dec N) [] (value-clear endKey N refl top))
+        ∙ collected-end n e′ u′ at N (p ++ []) (endKey ++ dec N) (entry-ended N top) (omega arith)
+    collected-reads (x ∷ r) p n e′ u′ at N c lp len sm bh cnt top =
         let sx = and-left (small x) (every small r) sm in
         let sr = and-right (small x) (every small r) sm in
         let bounds = limits E U lim in
@@ -131,7 +131,7 @@ module _ (name : List ℕ) (E U : ℕ) where
         (λ h.
         let cnt′ : N ≡ n + occurrences r = cnt ∙ rw h in
         let lp′ : length (p ++ 0 ∷ []) ≡ c + 1 = length-append p (0 ∷ []) ∙ omega arith in
-        zero-step p r c x N n e′ u′ at h (listed-reads r (p ++ 0 ∷ []) n e′ u′ at N (c + 1) lp′ (omega arith) sr (behind-more U c e′ u′ bh) cnt′ top))
+        zero-step p r c x N n e′ u′ at h (collected-reads r (p ++ 0 ∷ []) n e′ u′ at N (c + 1) lp′ (omega arith) sr (behind-more U c e′ u′ bh) cnt′ top))
         (λ h.
         let occ : occurrences (x ∷ r) ≡ occurrences r + 1 = rw h in
         let cnt′ : N ≡ n + 1 + occurrences r = omega arith in
@@ -142,7 +142,7 @@ module _ (name : List ℕ) (E U : ℕ) where
         (omega arith) in
         some-step p r c x N n e′ u′ at lp h (let q = pl .e-high in omega arith) (let q = pl .u-high in omega arith) (omega arith) (in-range c x lo within sx)
         (behind-after U c e′ u′ (c / U + 1) (c % U + 1) bh (omega arith) (omega arith) (pl .u-high) (omega arith))
-        (λ next. listed-reads r (p ++ x ∷ []) (n + 1) (c / U + 1) (c % U + 1) next N (c + 1) lp′ (omega arith) sr bh′ cnt′ top))
+        (λ next. collected-reads r (p ++ x ∷ []) (n + 1) (c / U + 1) (c % U + 1) next N (c + 1) lp′ (omega arith) sr bh′ cnt′ top))
 
 -- ---- the whole card
 
@@ -203,7 +203,7 @@ module _ (name : List ℕ) (E U : ℕ) (t : List ℕ) (g : WriteGood name E U t)
 
   head-read : (at : ℕ) (rest : Lines)
       → headed name at (line (equationsKey ++ dec E) (line (unknownsKey ++ dec U) rest))
-      ≡ listed name E U 0 0 0 (replicate (E * U) 0) (at + length (equationsKey ++ dec E) + 1 + length (unknownsKey ++ dec U) + 1) rest
+      ≡ listOf name E U (at + length (equationsKey ++ dec E) + 1 + length (unknownsKey ++ dec U) + 1) rest
   head-read at rest =
       let b = limited in
       rw (
@@ -218,11 +218,11 @@ module _ (name : List ℕ) (E U : ℕ) (t : List ℕ) (g : WriteGood name E U t)
       let s : length t ≡ E * U = eqb-true (length t) (E * U) (g .sized) in
       let at = length (rigKey ++ name) + 1 in
       let rest = linesOf (rest-of name E U 0 t N) in
-      ap (λ ls. named (cardOf name E U t) (rigOf ls) ls) lines-are
-      ∙ ap (λ r. named (cardOf name E U t) r (line (rigKey ++ name) (line (equationsKey ++ dec E) (line (unknownsKey ++ dec U) rest))))
+      ap (λ ls. fromRig (cardOf name E U t) (rigOf ls) ls) lines-are
+      ∙ ap (λ r. fromRig (cardOf name E U t) r (line (rigKey ++ name) (line (equationsKey ++ dec E) (line (unknownsKey ++ dec U) rest))))
       (rig-named (line (equationsKey ++ dec E) (line (unknownsKey ++ dec U) rest)))
       ∙ ap (λ m. headed m at (line (equationsKey ++ dec E) (line (unknownsKey ++ dec U) rest))) name-is
       ∙ head-read at rest
-      ∙ ap (λ m. listed name E U 0 0 0 (replicate m 0) (at + length (equationsKey ++ dec E) + 1 + length (unknownsKey ++ dec U) + 1) rest) (sym s)
-      ∙ listed-reads name E U (g .limits) t [] 0 0 0 (at + length (equationsKey ++ dec E) + 1 + length (unknownsKey ++ dec U) + 1) N 0 refl (omega arith)
+      ∙ ap (λ m. collected name E U 0 0 0 (replicate m 0) (at + length (equationsKey ++ dec E) + 1 + length (unknownsKey ++ dec U) + 1) rest) (sym s)
+      ∙ collected-reads name E U (g .limits) t [] 0 0 0 (at + length (equationsKey ++ dec E) + 1 + length (unknownsKey ++ dec U) + 1) N 0 refl (omega arith)
       (codes-small t (g .codes)) (behind-none U 0) (omega arith) codes-few

@@ -1,4 +1,12 @@
 -- Document 01, "The card": what the reader, the name question and the writer answer.
+-- The cases of what the code declares, and its records (Value and Entry: see Entry.antt):
+--   Rig      the rig line. `Unnamed m`: refused with m; `Named end`: good, and its LF stands at `end`
+--   Count    a count line. `Uncounted m`: refused with m; `Counts n next`: it says n, and the next line starts at `next`
+--   Turn     a line after the unknowns line. `Refused m`: refused with m; `Next pair code next`: an occurs line with its pair and code;
+--            `Last n next`: the end line with its number; the next line starts at `next`
+--   Pair     the numbers of an equation and an unknown: `p .equation .0` and `p .unknown .0`
+--   Reading  what the reader hands back: number, place, equations, unknowns
+--   Writing  what the writer hands back: number, place, length
 use mathlib.Core.Bool.{Bool, _&&_, _||_}
 use mathlib.Core.List.{List, [], _∷_, _++_}
 use Prim.Native.Nat.{ℕ, _+_, _-_, _*_, _/_, _%_}
@@ -55,8 +63,8 @@ abbrev pub inRange : ℕ → ℕ → ℕ → ℕ → ℕ → Bool
 inRange E U e u k = ((leb 1 e && leb e E) && (leb 1 u && leb u U)) && leb k 3
 
 -- 15: "this pair equals or precedes the one before", e′, u′
-abbrev pub precedes : ℕ → ℕ → ℕ → ℕ → Bool
-precedes e u e′ u′ = ltb e e′ || (eqb e e′ && leb u u′)
+abbrev pub notAfter : ℕ → ℕ → ℕ → ℕ → Bool
+notAfter e u e′ u′ = ltb e e′ || (eqb e e′ && leb u u′)
 
 abbrev pub pairSaid : ℕ → ℕ → ℕ → ℕ → Turn
 pairSaid e u k next = Next (record { equation = record { 0 = e }; unknown = record { 0 = u } }) (k + 1) next
@@ -64,7 +72,7 @@ pairSaid e u k next = Next (record { equation = record { 0 = e }; unknown = reco
 -- a line after the unknowns line: refused 11, 14 or 15, or its pair with the code k + 1, or the end line with its number; and where the next line starts
 abbrev pub turnSaid : ℕ → ℕ → ℕ → ℕ → ℕ → Entry → Turn
 turnSaid E U e′ u′ next Shape = Refused 11
-turnSaid E U e′ u′ next (Occurs e u k) = pick (inRange E U e u k) (pick (precedes e u e′ u′) (Refused 15) (pairSaid e u k next)) (Refused 14)
+turnSaid E U e′ u′ next (Occurs e u k) = pick (inRange E U e u k) (pick (notAfter e u e′ u′) (Refused 15) (pairSaid e u k next)) (Refused 14)
 turnSaid E U e′ u′ next (End n) = Last n next
 
 abbrev pub turnOf : ℕ → ℕ → ℕ → ℕ → ℕ → Lines → Turn
@@ -84,36 +92,42 @@ module _ (name : List ℕ) (E U : ℕ) where
   finished t at (line l rest) = refused 11 at
 
   -- what a line at `at` comes to: n occurs lines stand before it, t is the table so far, `on` goes on behind an occurs line
-  abbrev pub turned : ℕ → List ℕ → ℕ → Turn → Lines → (ℕ → ℕ → List ℕ → ℕ → Judged) → Judged
-  turned n t at (Refused m) rest on = refused m at
-  turned n t at (Last m next) rest on = pick (eqb m n) (finished t next rest) (refused 16 at)
-  turned n t at (Next p code next) rest on = on (p .equation .0) (p .unknown .0) (set t (cell U (p .equation .0) (p .unknown .0)) code) next
+  abbrev pub fromTurn : ℕ → List ℕ → ℕ → Turn → Lines → (ℕ → ℕ → List ℕ → ℕ → Judged) → Judged
+  fromTurn n t at (Refused m) rest on = refused m at
+  fromTurn n t at (Last m next) rest on = pick (eqb m n) (finished t next rest) (refused 16 at)
+  fromTurn n t at (Next p code next) rest on = on (p .equation .0) (p .unknown .0) (set t (cell U (p .equation .0) (p .unknown .0)) code) next
 
   -- the occurs lines and the end line: e′, u′ is the pair before, 0, 0 where there is none
-  abbrev pub listed : ℕ → ℕ → ℕ → List ℕ → ℕ → Lines → Judged
-  listed n e′ u′ t at none = refused 11 at
-  listed n e′ u′ t at (cut l) = refused 11 at
-  listed n e′ u′ t at (line l rest) =
-      turned n t at (turnOf E U e′ u′ at (line l rest)) rest (λ e u t next. listed (n + 1) e u t next rest)
+  abbrev pub collected : ℕ → ℕ → ℕ → List ℕ → ℕ → Lines → Judged
+  collected n e′ u′ t at none = refused 11 at
+  collected n e′ u′ t at (cut l) = refused 11 at
+  collected n e′ u′ t at (line l rest) =
+      fromTurn n t at (turnOf E U e′ u′ at (line l rest)) rest (λ e u t next. collected (n + 1) e u t next rest)
 
--- the count lines, one after the other
-abbrev pub counted : Count → ℕ → (ℕ → ℕ → Judged) → Judged
-counted (Uncounted m) at on = refused m at
-counted (Counts n next) at on = on n next
+  -- all of them, from the first on: every code is 0 yet
+  abbrev pub listOf : ℕ → Lines → Judged
+  listOf at lines = collected 0 0 0 (replicate (E * U) 0) at lines
 
+-- what a count line at `at` comes to: `on` goes on behind it
+abbrev pub fromCount : Count → ℕ → (ℕ → ℕ → Judged) → Judged
+fromCount (Uncounted m) at on = refused m at
+fromCount (Counts n next) at on = on n next
+
+-- the lines behind the rig line
 abbrev pub headed : List ℕ → ℕ → Lines → Judged
 headed name at lines =
-    counted (countOf equationsKey at lines) at
-    (λ E at′. counted (countOf unknownsKey at′ (behind lines)) at′
-    (λ U at″. listed name E U 0 0 0 (replicate (E * U) 0) at″ (behind (behind lines))))
+    fromCount (countOf equationsKey at lines) at
+    (λ E at′. fromCount (countOf unknownsKey at′ (behind lines)) at′
+    (λ U at″. listOf name E U at″ (behind (behind lines))))
 
-abbrev pub named : List ℕ → Rig → Lines → Judged
-named s (Unnamed m) lines = refused m 0
-named s (Named end) lines = headed (drop (length rigKey) (take end s)) (end + 1) (behind lines)
+-- what the rig line comes to
+abbrev pub fromRig : List ℕ → Rig → Lines → Judged
+fromRig s (Unnamed m) lines = refused m 0
+fromRig s (Named end) lines = headed (drop (length rigKey) (take end s)) (end + 1) (behind lines)
 
 -- "the first faulty line decides"
 abbrev pub judged : List ℕ → Judged
-judged s = named s (rigOf (linesOf s)) (linesOf s)
+judged s = fromRig s (rigOf (linesOf s)) (linesOf s)
 
 -- what the reader hands back, with room for so many table bytes: "17 comes last"
 abbrev pub readOf : ℕ → Judged → Reading

@@ -2,4 +2,6 @@
 pub mod Text
 pub mod Entry
 pub mod Card
+pub mod Promise
+pub mod Laid
 pub mod Steps

@@ -1,15 +1,15 @@
 -- Document 01, "The card": bytes, keys, numbers and lines.
+-- The cases of what the code declares:
+--   Number  `Missing`: no digit stands in front; `Is value took`: a number, and how many bytes it takes
 use mathlib.Core.Bool.{Bool, true, false, _&&_}
 use mathlib.Core.List.{List, [], _∷_}
 use Prim.Native.Nat.{ℕ, zero, suc, _+_, _-_, _*_, _/_, _%_}
 use lib.Dec.{leb, ltb, eqb}
-use lib.ListN.{length, drop}
+use lib.ListN.{drop}
 use Rattle.laws.specs.Tab.{pick}
 use Rattle.laws.specs.Text.{bytes}
 use Rattle.card.specs.declared.text.Number.{Number}
 use Rattle.card.specs.declared.text.Number.the-variants.{Missing, Is}
-use Rattle.card.specs.declared.text.Line.{Line}
-use Rattle.card.specs.declared.text.Line.the-variants.{Unended, Ends}
 
 -- the byte that ends a line, and the comma
 abbrev pub LF : ℕ
@@ -83,9 +83,3 @@ grown b (line l rest) = line (b ∷ l) rest
 abbrev pub linesOf : List ℕ → Lines
 linesOf [] = none
 linesOf (b ∷ text) = pick (eqb b LF) (line [] (linesOf text)) (grown b (linesOf text))
-
--- where the first line's LF stands, if its first byte stands at `at`
-abbrev pub endOf : ℕ → Lines → Line
-endOf at none = Unended
-endOf at (cut l) = Unended
-endOf at (line l rest) = Ends (at + length l)

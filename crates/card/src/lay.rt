@@ -13,7 +13,7 @@ ghost use lib.ListN.{length};
 ghost use Rattle.table.specs.Model.{limit};
 ghost use Rattle.card.specs.Text.{occursKey, comma, dec};
 ghost use Rattle.card.specs.Card.{lineOf, occursLine, occursLines, occurrences, headLines, cardOf};
-ghost use Rattle.card.specs.Steps.{Laid};
+ghost use Rattle.card.specs.Laid.{Laid};
 
 // `occurs=e,u,k`
 fn put_occurs(

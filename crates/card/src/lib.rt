@@ -21,7 +21,8 @@ ghost use Prim.Native.Nat.{_≤_};
 ghost use lib.ListN.{length, drop};
 ghost use Rattle.table.specs.Model.{inLimits};
 ghost use Rattle.card.specs.Card.{wroteNone};
-ghost use Rattle.card.specs.Steps.{ReadDone, RestRead, NamePart, WriteGood, WriteDone};
+ghost use Rattle.card.specs.Promise.{WriteGood, ReadDone, NamePart, WriteDone};
+ghost use Rattle.card.specs.Steps.{RestRead};
 
 // What the reader hands back.
 pub struct Reading {
@@ -61,11 +62,11 @@ fn read_rest(
     requires { ⌜ (inLimits equations unknowns ≡ true) × (from ≤ length (now card)) ⌝ }
     ensures { λ r. ⌜ RestRead (now (card .entry)) equations unknowns from (now (table .entry)) r (now (table .exit)) ⌝ }
 {
-    let listed = read_list(card, from, equations, unknowns);
-    if listed.number != 0 {
+    let collected = read_list(card, from, equations, unknowns);
+    if collected.number != 0 {
         return Reading {
-            number: listed.number,
-            place: listed.place,
+            number: collected.number,
+            place: collected.place,
             equations: 0,
             unknowns: 0,
         };
@@ -79,7 +80,7 @@ fn read_rest(
             unknowns: 0,
         };
     }
-    let codes = listed.table;
+    let codes = collected.table;
     copy(&codes[..size], table);
     Reading {
         number: 0,
@@ -122,8 +123,8 @@ pub fn name_of(card: &[u8]) -> &[u8]
     else {
         return &card[0..0];
     };
-    let listed = read_list(card, next, equations, unknowns);
-    if listed.number != 0 {
+    let collected = read_list(card, next, equations, unknowns);
+    if collected.number != 0 {
         return &card[0..0];
     }
     &card[4..name_end]

@@ -3,7 +3,7 @@ use crate::entry::Entry;
 use crate::entry::line_entry;
 use crate::text::Line;
 use crate::text::line_at;
-use table::LIMIT;
+use table::CELLS;
 use table::number::Equation;
 use table::number::Unknown;
 ghost use mathlib.Core.Path.{_≡_};
@@ -13,11 +13,8 @@ ghost use lib.ListN.{length, drop};
 ghost use Rattle.table.specs.Model.{inLimits};
 ghost use Rattle.card.specs.Text.{linesOf};
 ghost use Rattle.card.specs.declared.entry.Entry.the-variants.{Occurs};
-ghost use Rattle.card.specs.Card.{inRange, precedes, turnSaid, turnOf};
+ghost use Rattle.card.specs.Card.{inRange, notAfter, turnSaid, turnOf};
 ghost use Rattle.card.specs.Steps.{endSaid, ListRead};
-
-// The most codes that a table may have.
-pub const CELLS: usize = LIMIT * LIMIT;
 
 // The pair of an occurs line; 0, 0 where no line stands before.
 pub struct Pair {
@@ -35,8 +32,8 @@ pub enum Turn {
 // What the end line comes to: a number and a place, 0 and 0 where the card is good.
 pub struct Ending(pub u8, pub usize);
 
-// What the lines come to: number 0 and the table, or a refusal.
-pub struct Listed {
+// What the lines come to: number 0 and the table collected from them, or a refusal.
+pub struct Collected {
     pub number: u8,
     pub place: usize,
     pub table: [u8; CELLS],
@@ -68,7 +65,7 @@ fn in_range(
 
 // The pair equals or precedes the one before.
 fn not_after(pair: Pair, last: Pair) -> bool
-    ensures { λ r. ⌜ r ≡ precedes (pair .equation .0) (pair .unknown .0) (last .equation .0) (last .unknown .0) ⌝ }
+    ensures { λ r. ⌜ r ≡ notAfter (pair .equation .0) (pair .unknown .0) (last .equation .0) (last .unknown .0) ⌝ }
 {
     if pair.equation.0 < last.equation.0 {
         return true;
@@ -142,7 +139,7 @@ fn read_end(card: &[u8], said: usize, count: usize, at: usize, next: usize) -> E
 }
 
 // The occurs lines and the end line, from a place on.
-pub fn read_list(card: &[u8], from: usize, equations: usize, unknowns: usize) -> Listed
+pub fn read_list(card: &[u8], from: usize, equations: usize, unknowns: usize) -> Collected
     requires { ⌜ (inLimits equations unknowns ≡ true) × (from ≤ length (now card)) ⌝ }
     ensures { λ r. ⌜ ListRead (now (card .entry)) equations unknowns from r ⌝ }
 {
@@ -156,7 +153,7 @@ pub fn read_list(card: &[u8], from: usize, equations: usize, unknowns: usize) ->
     loop {
         match read_turn(card, at, equations, unknowns, last) {
             Turn::Refused(number) => {
-                return Listed {
+                return Collected {
                     number,
                     place: at,
                     table,
@@ -164,7 +161,7 @@ pub fn read_list(card: &[u8], from: usize, equations: usize, unknowns: usize) ->
             }
             Turn::Last { count: said, next } => {
                 let ending = read_end(card, said, count, at, next);
-                return Listed {
+                return Collected {
                     number: ending.0,
                     place: ending.1,
                     table,

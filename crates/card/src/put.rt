@@ -5,7 +5,7 @@ ghost use Prim.Native.Nat.{_+_, _^_, _<_};
 ghost use lib.ListN.{length};
 ghost use Rattle.card.specs.Text.{comma, digitOf, zerosOf, dec};
 ghost use Rattle.card.specs.Card.{lineOf};
-ghost use Rattle.card.specs.Steps.{Laid};
+ghost use Rattle.card.specs.Laid.{Laid};
 
 pub fn put(card: &mut [u8], at: usize, byte: u8) -> usize
     requires { ⌜ at + 1 < 2 ^ 64 ⌝ }

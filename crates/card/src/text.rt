@@ -1,7 +1,8 @@
 // Bytes, numbers and lines.
 ghost use mathlib.Core.Path.{_≡_};
 ghost use lib.ListN.{drop};
-ghost use Rattle.card.specs.Text.{begins, isLetter, isDigit, numberOf, linesOf, endOf};
+ghost use Rattle.card.specs.Text.{begins, isLetter, isDigit, numberOf, linesOf};
+ghost use Rattle.card.specs.Steps.{endOf};
 
 // A number at the front of a text, and how many bytes it takes.
 pub enum Number {

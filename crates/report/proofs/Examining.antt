@@ -13,7 +13,8 @@ use Rattle.table.specs.Model.{limit}
 use Rattle.table.proofs.Model.{limits}
 use Rattle.card.specs.Entry.{nameByte, every}
 use Rattle.card.specs.Card.{Judged, refused, good, judged, readOf, nameOf}
-use Rattle.card.specs.Steps.{Laid, ReadDone}
+use Rattle.card.specs.Promise.{ReadDone}
+use Rattle.card.specs.Laid.{Laid}
 use Rattle.card.specs.declared.Reading.{Reading}
 use Rattle.card.proofs.ListLaws.{cells-within}
 use Rattle.card.proofs.WriteLaws.{laid-nothing}

@@ -11,7 +11,7 @@ use borrow.Author.Tests.{eq-eqb, ne-eqb}
 use Rattle.laws.specs.Text.{bytes}
 use Rattle.laws.proofs.Tests.{test}
 use Rattle.card.specs.Text.{dec}
-use Rattle.card.specs.Steps.{Laid}
+use Rattle.card.specs.Laid.{Laid}
 use Rattle.card.proofs.PutLaws.{laid-then, dec-short}
 use Rattle.analysis.specs.Outcome.{unused}
 use Rattle.report.specs.Printed.{further, joined, commas, splitOf, usedIn, orNone}

@@ -11,7 +11,7 @@ use Rattle.laws.specs.Text.{bytes}
 use Rattle.laws.proofs.Tests.{test}
 use Rattle.table.specs.Model.{limit}
 use Rattle.card.specs.Text.{LF, digitOf, dec}
-use Rattle.card.specs.Steps.{Laid}
+use Rattle.card.specs.Laid.{Laid}
 use Rattle.card.proofs.PutLaws.{laid-then, dec-short}
 use Rattle.card.proofs.WriteLaws.{laid-same}
 use Rattle.analysis.specs.Outcome.{answerBytes}

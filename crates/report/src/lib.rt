@@ -13,7 +13,7 @@ ghost use mathlib.Core.Path.{_≡_};
 ghost use Prim.Native.Nat.{_*_, _≤_};
 ghost use lib.ListN.{length};
 ghost use Rattle.table.specs.Model.{limit};
-ghost use Rattle.card.specs.Steps.{Laid};
+ghost use Rattle.card.specs.Laid.{Laid};
 ghost use Rattle.report.specs.Printed.{Reported};
 ghost use Rattle.report.specs.Steps.{refusedAs, textOf, Analysed, Examined};
 

@@ -7,7 +7,7 @@ ghost use mathlib.Core.List.{_∷_};
 ghost use Prim.Native.Nat.{_+_, _*_, _^_, _≤_, _<_};
 ghost use lib.ListN.{length};
 ghost use Rattle.card.specs.Text.{dec};
-ghost use Rattle.card.specs.Steps.{Laid};
+ghost use Rattle.card.specs.Laid.{Laid};
 ghost use Rattle.report.specs.Printed.{commas, splitOf, blocksOf, usedIn, orNone};
 
 // What an unused place of a strip holds.

@@ -15,7 +15,7 @@ ghost use lib.ListN.{length};
 ghost use Rattle.table.specs.Model.{limit};
 ghost use Rattle.analysis.specs.Outcome.{answerBytes};
 ghost use Rattle.card.specs.Text.{LF};
-ghost use Rattle.card.specs.Steps.{Laid};
+ghost use Rattle.card.specs.Laid.{Laid};
 ghost use Rattle.report.specs.Printed.{commas, stripIn, placeDec, refusedText, singularText, solvableText};
 ghost use Rattle.report.specs.Steps.{headText, leftText, orderText, stripsText};
 

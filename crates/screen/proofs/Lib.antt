@@ -1,2 +1,3 @@
 -- The laws of the numbers handed back.
 pub mod Unpacked
+pub mod Theorems

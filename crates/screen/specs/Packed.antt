@@ -2,7 +2,7 @@
 use mathlib.Core.Path.{_≡_}
 use mathlib.Core.List.{List}
 use Prim.Native.Nat.{ℕ, _+_, _*_, _/_, _%_}
-use lib.ListN.{length}
+use lib.ListN.{length, take, drop}
 use Rattle.card.specs.Card.{Judged, judged, readOf, tableOf, nameOf, nameAt, cardOf, writeOf, cardAfter}
 use Rattle.card.specs.declared.Reading.{Reading}
 use Rattle.card.specs.declared.Writing.{Writing}
@@ -31,6 +31,9 @@ pub record WritePacked (name : List ℕ) (E U : ℕ) (table before : List ℕ) (
 abbrev pub nameNumber : Judged → ℕ
 nameNumber j = packed (length (nameOf j)) (nameAt j) 0 0
 
+pub record NamePacked (card : List ℕ) (number : ℕ) : Type 0 where
+  pub answer : number ≡ nameNumber (judged card)
+
 -- what the caller takes off: the lowest byte, the two bytes behind it, the fourth byte or the fourth and fifth as one number, the fifth byte
 abbrev pub firstIn : ℕ → ℕ
 firstIn n = n % 256
@@ -46,3 +49,7 @@ fifthIn n = n / 4294967296 % 256
 
 abbrev pub twoFromFourthIn : ℕ → ℕ
 twoFromFourthIn n = n / 16777216 % 65536
+
+-- the part of a card that the name question's number says
+abbrev pub partIn : List ℕ → ℕ → List ℕ
+partIn card n = take (firstIn n) (drop (secondIn n) card)

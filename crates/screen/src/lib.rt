@@ -6,10 +6,9 @@ use card::write;
 use report::report;
 ghost use mathlib.Core.Path.{_≡_};
 ghost use Prim.Native.Nat.{_≤_};
-ghost use Rattle.card.specs.Card.{judged};
 ghost use Rattle.analysis.specs.Outcome.{Reply};
 ghost use Rattle.report.specs.Printed.{Reported};
-ghost use Rattle.screen.specs.Packed.{packed, nameNumber, ReadPacked, WritePacked};
+ghost use Rattle.screen.specs.Packed.{packed, ReadPacked, WritePacked, NamePacked};
 
 // Numbers as one, from the lowest byte: a byte, two bytes, low first, and what stands in the fourth and from the fifth byte on.
 fn pack(first: usize, second: usize, fourth: usize, fifth: usize) -> u64
@@ -54,7 +53,7 @@ pub extern "C" fn mudorder_write(
 // The name question: from the lowest byte the length of the part that holds the name, its offset in the card (two bytes), then 0.
 #[no_mangle]
 pub extern "C" fn mudorder_name(card: &[u8]) -> u64
-    ensures { λ r. ⌜ r ≡ nameNumber (judged (now (card .entry))) ⌝ }
+    ensures { λ r. ⌜ NamePacked (now (card .entry)) r ⌝ }
 {
     let part = name_of(card);
     if part.len() == 0 {

@@ -3,7 +3,8 @@ use mathlib.Core.Path.{_≡_, refl, sym, _∙_}
 use Prim.Native.Nat.{_-_}
 use native.Mathlib.Omega.{arith}
 use lib.ListN.{length, drop}
-use Rattle.card.specs.Text.{linesOf, endOf}
+use Rattle.card.specs.Text.{linesOf}
+use Rattle.card.specs.Steps.{endOf}
 use Rattle.card.proofs.TextLaws.{end-here, end-on, end-none}
 use Rattle.card.proofs.text.line_at.Statement.{statement}
 use Rattle.card.proofs.text.line_at.Tie as tie
