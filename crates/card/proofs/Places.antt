@@ -10,8 +10,8 @@ use lib.ListN.{length, take, drop, set, replicate, length-append}
 use borrow.Author.Tests.{leb-true}
 use Rattle.laws.specs.Count.{sum}
 use Rattle.laws.proofs.Tests.{test, and-left, and-right}
-use Rattle.table.specs.Model.{limit, countedIn}
-use Rattle.table.proofs.Model.{Counted, counted}
+use Rattle.table.specs.Model.{limit, countedIn, Numbered}
+use Rattle.table.proofs.Model.{counted}
 use Rattle.card.specs.Text.{LF, comma, rigKey, equationsKey, unknownsKey, occursKey, endKey, begins, dec, Lines, none, cut, line, linesOf}
 use Rattle.card.specs.Entry.{nameByte, every, goodName, valueOf, entryOf}
 use Rattle.card.specs.Card.{refused, behind, rigOf, countSaid, countOf, inRange, notAfter, turnSaid, cell, finished, fromTurn, collected, listOf, headed}
@@ -149,13 +149,13 @@ count-low key at (line l rest) m q = go (valueOf key l) q
 
 -- a count line is no longer than its key, two digits and the LF
 count-next : (key : List ℕ) (at : ℕ) (ls : Lines) (n next : ℕ) → countOf key at ls ≡ Counts n next
-    → Counted n × (next ≤ at + length key + 3) × (next + length (textOf (behind ls)) ≡ at + length (textOf ls))
+    → Numbered n × (next ≤ at + length key + 3) × (next + length (textOf (behind ls)) ≡ at + length (textOf ls))
 count-next key at none n next q = uncounted-counts q
 count-next key at (cut l) n next q = uncounted-counts q
 count-next key at (line l rest) n next q = go (valueOf key l) refl q
   where
     go : (v : Value) → valueOf key l ≡ v → countSaid (at + length l + 1) v ≡ Counts n next
-        → Counted n × (next ≤ at + length key + 3) × (next + length (textOf rest) ≡ at + length (textOf (line l rest)))
+        → Numbered n × (next ≤ at + length key + 3) × (next + length (textOf rest) ≡ at + length (textOf (line l rest)))
     go Other p q = uncounted-counts q
     go (Says k) p q =
         test (countedIn k)

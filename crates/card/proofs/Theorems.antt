@@ -12,7 +12,7 @@ use lib.Seq.{take-at}
 use borrow.Author.Tests.{ne-eqb, eqb-true, le-ltb, le-leb, ltb-false}
 use Rattle.laws.proofs.Tests.{test}
 use Rattle.table.specs.Model.{limit, inLimits, firstAbove}
-use Rattle.table.proofs.Model.{limits}
+use Rattle.table.proofs.Model.{limits, above-most}
 use Rattle.card.specs.Entry.{goodName}
 use Rattle.card.specs.Card.{Judged, refused, good, judged, readOf, tableOf, nameOf, nameAt, cardOf, wroteNone, cardAfter}
 use Rattle.card.specs.Promise.{WriteGood, IsCard, ReadDone, NamePart, WriteDone}
@@ -180,7 +180,7 @@ write-fits {name} {t} {before} {after} {E} {U} {r} k =
     (record { number = omega arith; place = omega arith; length-fits = card-length name E U t (record { named = a; limits = b; sized = c; codes = d }) }))
     (λ e. none-fits (rw (a, b, c, d, e) at (k .answer)) (omega arith) (omega arith)))
     (λ d. none-fits (rw (a, b, c, d) at (k .answer)) (omega arith)
-    (let f = above-within t in let s = eqb-true (length t) (E * U) c in let m = cells-within E U b in omega arith)))
+    (let f = above-most t in let s = eqb-true (length t) (E * U) c in let m = cells-within E U b in omega arith)))
     (λ c. none-fits (rw (a, b, c) at (k .answer)) (omega arith) (omega arith)))
     (λ b. none-fits (rw (a, b) at (k .answer)) (omega arith) (omega arith)))
     (λ a. none-fits (rw a at (k .answer)) (omega arith) (omega arith))
@@ -190,10 +190,6 @@ write-fits {name} {t} {before} {after} {E} {U} {r} k =
 
     none-fits : {m at : ℕ} → r ≡ wroteNone m at → m ≤ 18 → at ≤ longest → WriteFits r
     none-fits e f g = at-most e (record { number = f; place = g; length-fits = omega arith })
-
-    above-within : (l : List ℕ) → firstAbove l ≤ length l
-    above-within [] = omega arith
-    above-within (x ∷ l) = let h = above-within l in test (leb x 4) (λ y. rw y (omega arith)) (λ y. rw y (omega arith))
 
 -- ---- the name question
 

@@ -34,7 +34,3 @@ any-where {n} p t = either (seek n p) (λ (i, h, e, l). (i, h, e)) (λ none. cla
 
 pub any-none : {n : ℕ} (p : ℕ → Bool) → any n p ≡ false → (i : ℕ) → i < n → p i ≡ false
 any-none {n} p f i h = test (p i) (λ t. clash (any-here p i h t) f) (λ e. e)
-
-pub any-same : (n : ℕ) (p q : ℕ → Bool) → ((i : ℕ) → i < n → p i ≡ q i) → any n p ≡ any n q
-any-same zero p q h = refl
-any-same (suc n) p q h = let a = h n (omega arith) in let b = any-same n p q (λ i k. h i (omega arith)) in cc
