@@ -1,7 +1,7 @@
 -- What the promises of `read`, `write` and `name_of` come to: one outcome each, which inputs are good, what succeeds and what a refusal leaves alone,
 -- both round trips, and the bounds of every number. Each goes by the cases of `judged`, or by the writer's tests one after another.
 use mathlib.Core.Path.{_≡_, refl, ap, sym, _∙_}
-use mathlib.Core.List.{List, [], _∷_, _++_}
+use mathlib.Core.List.{List, _++_}
 use mathlib.Core.Logic.{_↔_}
 use Prim.Native.Nat.{ℕ, _+_, _*_, _≤_}
 use native.Mathlib.Omega.{arith}
