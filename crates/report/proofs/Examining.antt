@@ -19,9 +19,10 @@ use Rattle.card.proofs.ListLaws.{cells-within}
 use Rattle.card.proofs.WriteLaws.{laid-nothing}
 use Rattle.card.proofs.Readable.{good-card}
 use Rattle.card.proofs.Theorems.{read-good}
-use Rattle.report.specs.Printed.{refusedText, solvableText, singularText, verdictText, PrintedOf, Printed, inputLimit, Reported}
-use Rattle.report.specs.Steps.{textOf, refusedAs, Analysed, Examined}
+use Rattle.report.specs.Printed.{refusedText, PrintedOf, Printed, inputLimit, Reported}
+use Rattle.report.specs.Steps.{solvableText, singularText, verdictText, textOf, refusedAs, Analysed, Examined}
 use Rattle.report.specs.declared.Found.{Found}
+use Rattle.report.proofs.Truth.{answered-prints}
 
 -- the name of a good card has 1 to 24 bytes, and a name that is asked for has no more
 pub name-length : (s name : List ℕ) (E U : ℕ) (t : List ℕ) → judged s ≡ good name E U t → (1 ≤ length name) × (length name ≤ 24)
@@ -55,7 +56,8 @@ module _ (s name : List ℕ) (E U : ℕ) (t : List ℕ) (p : judged s ≡ good n
       record {
         printed = record {
           long = λ n. absurd (omega arith);
-          short = λ _. rw p (record { number = f .number; answer = f .answer; reply = rw (e, u, b, take-at t rest (E * U) l) at (d .reply); says = said });
+          short = λ _. rw p (answered-prints s p
+              (record { number = f .number; answer = f .answer; reply = rw (e, u, b, take-at t rest (E * U) l) at (d .reply); says = said }));
         };
         within = omega (arith, m .0 .high);
       }

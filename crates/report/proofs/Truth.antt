@@ -1,20 +1,21 @@
 -- What is printed for a good card is what holds of its model: the numbers are taken off whole, and the strips are the lists of the analysis.
 use mathlib.Core.Path.{_≡_, refl, ap, sym, _∙_}
-use mathlib.Core.Bool.{true}
+use mathlib.Core.Bool.{true, false, _&&_}
 use mathlib.Core.List.{List, [], _∷_, _++_, map, append-assoc}
 use Prim.Native.Nat.{ℕ, zero, suc, _+_, _-_, _*_, _/_, _%_, _≤_, _<_}
 use native.Mathlib.Omega.{arith}
 use lib.Arith.{digits-div, digits-mod}
-use lib.Dec.{leb}
+use lib.Dec.{leb, ltb, eqb}
 use lib.ListN.{length, getD, take, drop, replicate, length-append, length-replicate, length-map}
 use lib.Seq.{take-at, drop-append-add}
-use borrow.Author.Tests.{ne-eqb, leb-true, leb-false, eqb-true}
+use borrow.Author.Tests.{eq-eqb, ne-eqb, le-ltb, leb-true, leb-false, eqb-true}
 use Rattle.laws.proofs.Tab.{is-tab, copies-at}
-use Rattle.laws.proofs.Tests.{test, and-both}
+use Rattle.laws.proofs.Tests.{test, clash, and-left, and-right, and-both}
 use Rattle.table.specs.Model.{limit, wellSized, firstAbove, occursAt, orderAt, rowsOf}
 use Rattle.table.proofs.Model.{sized}
-use Rattle.pairing.specs.Pairing.{Listed}
-use Rattle.pairing.proofs.Sizes.{size-rows}
+use Rattle.pairing.specs.Pairing.{Rank, Listed}
+use Rattle.pairing.proofs.Sizes.{size-rows, rank-one}
+use Rattle.pairing.proofs.Solve.{solvable-rank}
 use Rattle.counts.specs.Fit.{indexOf, freedomOf}
 use Rattle.counts.specs.Work.{numberAt, topOrder}
 use Rattle.counts.proofs.Fit.{freedom-high}
@@ -23,10 +24,10 @@ use Rattle.counts.proofs.Judged.{judged}
 use Rattle.card.specs.Card as Read
 use Rattle.card.specs.Card.{good}
 use Rattle.card.proofs.Readable.{good-card}
-use Rattle.analysis.specs.Outcome.{unused, strip, strips, answerBytes, Singular, Solved, Verdict}
+use Rattle.analysis.specs.Outcome.{unused, strip, strips, answerBytes, refusal, Singular, Solved, Reply}
 use Rattle.analysis.proofs.Strips.{strip-length}
-use Rattle.report.specs.Printed.{codeIn, rankIn, indexIn, freedomIn, stripIn, usedIn, singularLines, solvableLines, singularText, solvableText, verdictText, Answered}
-use Rattle.report.proofs.Printing.{good-analysed}
+use Rattle.report.specs.Printed.{singularLines, solvableLines, PrintsModel, solvable, singular}
+use Rattle.report.specs.Steps.{codeIn, rankIn, indexIn, freedomIn, stripIn, usedIn, singularText, solvableText, verdictText}
 
 -- ---- a strip is its list and unused places
 
@@ -187,28 +188,77 @@ module _ (name : List ℕ) (E U : ℕ) (t : List ℕ) {before after : List ℕ} 
 
 -- ---- what is printed for a good card
 
-module _ (input name : List ℕ) (E U : ℕ) (t : List ℕ) (q : Read.judged input ≡ good name E U t) {text : List ℕ} (a : Answered name E U t text) where
+-- the text of what the analysis hands back for a table
+pub record Answered (name : List ℕ) (E U : ℕ) (table text : List ℕ) : Type 0 where
+  pub number : ℕ
+  pub answer : List ℕ
+  pub reply : Reply E U table (replicate answerBytes 0) number answer
+  pub says : text ≡ verdictText name E number answer
+
+module _ (input : List ℕ) {name t : List ℕ} {E U : ℕ} (q : Read.judged input ≡ good name E U t) where
   well-sized : wellSized E U t ≡ true
   well-sized = let g = good-card input name E U t q .fine in and-both (g .limits) (g .sized)
 
   none-above : firstAbove t ≡ length t
   none-above = eqb-true (firstAbove t) (length t) (good-card input name E U t q .fine .codes)
 
-  -- the verdict on the card's table: a good card is never refused
-  pub verdict : Verdict E U (occursAt (rowsOf E U t)) (orderAt (rowsOf E U t)) (replicate answerBytes 0) (a .number) (a .answer)
-  verdict = a .reply .verdict (good-analysed input name E U t q)
+  -- its table is not refused by the analysis
+  not-refused : refusal E U t answerBytes ≡ 0
+  not-refused =
+      let g = good-card input name E U t q .fine in
+      let c : ltb (firstAbove t) (length t) ≡ false = le-ltb (firstAbove t) (length t) (let z = none-above in omega arith) in
+      rw (g .limits, g .sized, c)
 
-  -- a solvable model: its least counts, their tops, the first partners and the placing of its blocks
-  pub prints-solvable : (e : E ≡ U) (r : verdict .rank ≡ E)
-      → text ≡ solvableLines name (indexOf E (numberAt (verdict .solvable e r .counts)))
-      (freedomOf E E (numberAt (verdict .solvable e r .counts)) (numberAt (verdict .solvable e r .tops))) (verdict .solvable e r .counts)
-      (verdict .solvable e r .tops) (map suc (verdict .solvable e r .partner)) (map suc (verdict .solvable e r .order)) (verdict .solvable e r .block)
-  prints-solvable e r = a .says ∙ solvable-says name E U t well-sized none-above (verdict .solvable e r) e r
+  rank-small : {k : ℕ} → Rank E U (occursAt (rowsOf E U t)) k → k ≤ E
+  rank-small k = rw (← k .counts) (size-rows E U (k .pairs))
 
-  -- any other: its rank, and every equation that is surplus and every unknown that is unfixed
-  pub prints-singular : (n : E ≡ U → verdict .rank ≡ E → ⊥)
-      → text ≡ singularLines name (verdict .rank) (map suc (verdict .singular n .surplus)) (map suc (verdict .singular n .unfixed))
-  prints-singular n = a .says ∙ singular-says name E U t well-sized none-above (verdict .singular n) rank-small
-    where
-      rank-small : verdict .rank ≤ E
-      rank-small = let k = verdict .ranked in rw (← k .counts) (size-rows E U (k .pairs))
+  -- that text is what is printed of the model
+  pub answered-prints : {text : List ℕ} → Answered name E U t text → PrintsModel name E U (occursAt (rowsOf E U t)) (orderAt (rowsOf E U t)) text
+  answered-prints a =
+      let v = a .reply .verdict not-refused in
+      test (eqb E U && eqb (v .rank) E)
+      (λ b.
+      let e = eqb-true E U (and-left (eqb E U) (eqb (v .rank) E) b) in
+      let r = eqb-true (v .rank) E (and-right (eqb E U) (eqb (v .rank) E) b) in
+      let s = rw r at (v .solvable e r) in
+      solvable (solvable-rank .1 (e, rw r at (v .ranked)))
+      (record { number = a .number; answer = a .answer; solved = s; says = a .says ∙ solvable-says name E U t well-sized none-above s e refl }))
+      (λ b.
+      let n : E ≡ U → v .rank ≡ E → ⊥ = λ e r. clash (and-both (eq-eqb E U e) (eq-eqb (v .rank) E r)) b in
+      singular (λ s. n (solvable-rank .0 s .0) (rank-one (v .ranked) (solvable-rank .0 s .1)))
+      (record {
+        rank = v .rank;
+        ranked = v .ranked;
+        number = a .number;
+        answer = a .answer;
+        lists = v .singular n;
+        says = a .says ∙ singular-says name E U t well-sized none-above (v .singular n) (rank-small (v .ranked));
+      }))
+
+  -- and what is printed of the model is that text
+  pub prints-answered : {text : List ℕ} → PrintsModel name E U (occursAt (rowsOf E U t)) (orderAt (rowsOf E U t)) text → Answered name E U t text
+  prints-answered (solvable s p) =
+      let (e, k) = solvable-rank .0 s in
+      record {
+        number = p .number;
+        answer = p .answer;
+        reply = record {
+          refused = λ n. absurd (n not-refused);
+          verdict = λ _. record { rank = E; ranked = k; solvable = λ _ _. p .solved; singular = λ n. absurd (n e refl) };
+        };
+        says = p .says ∙ sym (solvable-says name E U t well-sized none-above (p .solved) e refl);
+      }
+  prints-answered (singular n p) = record {
+    number = p .number;
+    answer = p .answer;
+    reply = record {
+      refused = λ n. absurd (n not-refused);
+      verdict = λ _. record {
+        rank = p .rank;
+        ranked = p .ranked;
+        solvable = λ e r. absurd (n (solvable-rank .1 (e, rw r at (p .ranked))));
+        singular = λ _. p .lists;
+      };
+    };
+    says = p .says ∙ sym (singular-says name E U t well-sized none-above (p .lists) (rank-small (p .ranked)));
+  }

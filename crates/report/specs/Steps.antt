@@ -1,16 +1,53 @@
 -- What the functions below the entry promise one another.
 use mathlib.Core.Path.{_≡_}
 use mathlib.Core.List.{List, [], _∷_, _++_}
-use Prim.Native.Nat.{ℕ, _≤_}
+use Prim.Native.Nat.{ℕ, _*_, _/_, _%_, _≤_}
 use lib.Dec.{eqb}
-use lib.ListN.{replicate}
+use lib.ListN.{take, drop, replicate}
 use Rattle.laws.specs.Tab.{pick}
 use Rattle.table.specs.Model.{limit}
 use Rattle.card.specs.Text.{LF}
 use Rattle.card.specs.Card.{judged, nameOf}
-use Rattle.analysis.specs.Outcome.{answerBytes, Reply}
-use Rattle.report.specs.Printed.{field, commas, orNone, blocksOf, usedIn, stripIn, verdictText, refusedText, Printed}
+use Rattle.analysis.specs.Outcome.{unused, answerBytes, Reply}
+use Rattle.report.specs.Printed.{field, commas, orNone, blocksOf, solvableLines, singularLines, refusedText, Printed}
 use Rattle.report.specs.declared.Found.{Found}
+
+-- ---- What the analysis handed back: the bytes of its number, and the strips of its answer
+
+abbrev pub codeIn : ℕ → ℕ
+codeIn number = number % 256
+
+abbrev pub rankIn : ℕ → ℕ
+rankIn number = number / 16777216 % 256
+
+abbrev pub indexIn : ℕ → ℕ
+indexIn number = number / 4294967296 % 256
+
+abbrev pub freedomIn : ℕ → ℕ
+freedomIn number = number / 1099511627776 % 256
+
+-- the first n places of a strip; strips count from 0
+abbrev pub stripIn : ℕ → ℕ → List ℕ → List ℕ
+stripIn k n answer = take n (drop (k * limit) answer)
+
+-- the places of a strip that are used: those before the first 255
+abbrev pub usedIn : List ℕ → List ℕ
+usedIn [] = []
+usedIn (x ∷ l) = pick (eqb x unused) [] (x ∷ usedIn l)
+
+unfoldable pub solvableText : List ℕ → ℕ → ℕ → List ℕ → List ℕ
+solvableText name n number answer =
+    solvableLines name (indexIn number) (freedomIn number) (stripIn 0 n answer) (stripIn 1 n answer) (stripIn 2 n answer)
+    (stripIn 3 n answer) (stripIn 4 n answer)
+
+unfoldable pub singularText : List ℕ → ℕ → List ℕ → List ℕ
+singularText name number answer = singularLines name (rankIn number) (usedIn (stripIn 0 limit answer)) (usedIn (stripIn 1 limit answer))
+
+-- code 0 is solvable, any other verdict singular
+abbrev pub verdictText : List ℕ → ℕ → ℕ → List ℕ → List ℕ
+verdictText name n number answer = pick (eqb (codeIn number) 0) (solvableText name n number answer) (singularText name number answer)
+
+-- ---- What the functions lay, and what they hand one another
 
 -- the rig and the verdict
 abbrev pub headText : List ℕ → List ℕ → List ℕ

@@ -8,7 +8,8 @@ ghost use Prim.Native.Nat.{_+_, _*_, _^_, _≤_, _<_};
 ghost use lib.ListN.{length};
 ghost use Rattle.card.specs.Text.{dec};
 ghost use Rattle.card.specs.Steps.{Laid};
-ghost use Rattle.report.specs.Printed.{commas, splitOf, blocksOf, usedIn, orNone};
+ghost use Rattle.report.specs.Printed.{commas, splitOf, blocksOf, orNone};
+ghost use Rattle.report.specs.Steps.{usedIn};
 
 // What an unused place of a strip holds.
 const UNUSED: u8 = 255;
