@@ -13,7 +13,7 @@ ghost use Rattle.analysis.specs.Outcome.{strip};
 ghost use Rattle.analysis.specs.Written.{unknownNumber, equationNumber};
 
 // What an unused place of a strip holds.
-const UNUSED: u8 = 255;
+pub const UNUSED: u8 = 255;
 
 // A strip with nothing in it.
 pub fn unused(stretch: &mut [u8])

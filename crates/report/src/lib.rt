@@ -8,6 +8,7 @@ use crate::text::put_solvable;
 use analysis::mudorder_analyse;
 use card::name_of;
 use card::read;
+use table::CELLS;
 use table::LIMIT;
 ghost use mathlib.Core.Path.{_≡_};
 ghost use Prim.Native.Nat.{_*_, _≤_};
@@ -23,9 +24,7 @@ pub const INPUT_LIMIT: usize = 16384;
 // No text is longer.
 pub const TEXT_LIMIT: usize = 1024;
 
-// The most codes of a table, and the five strips of an answer.
-const CELLS: usize = LIMIT * LIMIT;
-
+// The five strips of an answer.
 const ANSWER: usize = 5 * LIMIT;
 
 // What a card comes to: a refusal, or with refused 0 what the analysis handed back.

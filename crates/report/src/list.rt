@@ -1,4 +1,5 @@
 // Lists of numbers, laid as text.
+use analysis::strip::UNUSED;
 use card::put::put;
 use card::put::put_all;
 use card::put::put_number;
@@ -10,9 +11,6 @@ ghost use Rattle.card.specs.Text.{dec};
 ghost use Rattle.card.specs.Steps.{Laid};
 ghost use Rattle.report.specs.Printed.{commas, splitOf, blocksOf, orNone};
 ghost use Rattle.report.specs.Steps.{usedIn};
-
-// What an unused place of a strip holds.
-const UNUSED: u8 = 255;
 
 fn wide(number: u8) -> usize
     ensures { λ r. ⌜ r ≡ number ⌝ }
