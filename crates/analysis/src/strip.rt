@@ -10,7 +10,7 @@ ghost use Rattle.pairing.specs.Members.{members};
 ghost use Rattle.analysis.specs.Outcome.{strip};
 
 // What an unused place of a strip holds.
-const UNUSED: u8 = 255;
+pub const UNUSED: u8 = 255;
 
 // A strip with nothing in it.
 pub fn unused(stretch: &mut [u8])

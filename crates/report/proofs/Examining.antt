@@ -20,9 +20,10 @@ use Rattle.card.proofs.ListLaws.{cells-within}
 use Rattle.card.proofs.WriteLaws.{laid-nothing}
 use Rattle.card.proofs.Readable.{good-card}
 use Rattle.card.proofs.Theorems.{read-good}
-use Rattle.report.specs.Printed.{refusedText, solvableText, singularText, verdictText, PrintedOf, Printed, inputLimit, Reported}
-use Rattle.report.specs.Steps.{textOf, refusedAs, Analysed, Examined}
-use Rattle.report.specs.declared.Found.{Found}
+use Rattle.report.specs.Printed.{refusedText, PrintedOf, Printed, inputLimit, Reported}
+use Rattle.report.specs.Steps.{solvableText, singularText, verdictText, findingsText, refusedAs, Analysed, Examined}
+use Rattle.report.specs.declared.Findings.{Findings}
+use Rattle.report.proofs.Truth.{answered-prints}
 
 -- the name of a good card has 1 to 24 bytes, and a name that is asked for has no more
 pub name-length : (s name : List ℕ) (E U : ℕ) (t : List ℕ) → judged s ≡ good name E U t → (1 ≤ length name) × (length name ≤ 24)
@@ -47,16 +48,17 @@ module _ (s name : List ℕ) (E U : ℕ) (t : List ℕ) (p : judged s ≡ good n
   good-size : x * y ≤ limit * limit
   good-size = rw (e, u) (cells-within E U (good-card s name E U t p .fine .limits))
 
-  good-found : (after rest : List ℕ) {f : Found} → length s ≤ inputLimit → after ≡ t ++ rest → length t ≡ E * U
+  good-found : (after rest : List ℕ) {f : Findings} → length s ≤ inputLimit → after ≡ t ++ rest → length t ≡ E * U
       → Analysed x y (take (x * y) after) f → Examined s f
   good-found after rest {f} h b l d =
       let m = limits E U (good-card s name E U t p .fine .limits) in
       let i = d .equations in
-      let said : textOf name f ≡ verdictText name E (f .number) (f .answer) = rw (d .good, i, e) in
+      let said : findingsText name f ≡ verdictText name E (f .number) (f .answer) = rw (d .good, i, e) in
       record {
         printed = record {
           long = λ n. absurd (omega arith);
-          short = λ _. rw p (record { number = f .number; answer = f .answer; reply = rw (e, u, b, take-at t rest (E * U) l) at (d .reply); says = said });
+          short = λ _. rw p (answered-prints s p
+              (record { number = f .number; answer = f .answer; reply = rw (e, u, b, take-at t rest (E * U) l) at (d .reply); says = said }));
         };
         within = omega (arith, m .0 .high);
       }
@@ -65,10 +67,10 @@ module _ {s after : List ℕ} {r : Reading} (h : length s ≤ inputLimit) (k : R
   pub examined-refused : (r .number ≡ 0 → ⊥) → Examined s (refusedAs (r .number) (r .place))
   examined-refused n = record { printed = record { long = λ l. absurd (omega arith); short = λ _. go (judged s) refl }; within = omega arith }
     where
-      text-is : (name : List ℕ) → textOf name (refusedAs (r .number) (r .place)) ≡ refusedText (r .number) (r .place)
+      text-is : (name : List ℕ) → findingsText name (refusedAs (r .number) (r .place)) ≡ refusedText (r .number) (r .place)
       text-is name = rw (ne-eqb (r .number) 0 n)
 
-      go : (j : Judged) → judged s ≡ j → PrintedOf j (textOf (nameOf (judged s)) (refusedAs (r .number) (r .place)))
+      go : (j : Judged) → judged s ≡ j → PrintedOf j (findingsText (nameOf (judged s)) (refusedAs (r .number) (r .place)))
       go (refused m at) p =
           let a : r ≡ readOf (limit * limit) (refused m at) = k .answer ∙ ap (readOf (limit * limit)) p in
           text-is (nameOf (judged s)) ∙ ap (λ x. refusedText (x .number) (x .place)) a
@@ -83,7 +85,7 @@ module _ {s after : List ℕ} {r : Reading} (h : length s ≤ inputLimit) (k : R
     pub size-small : r .equations * r .unknowns ≤ limit * limit
     size-small = let g = read-good k z in let w = g .says in good-size s (w .name) (w .E) (w .U) (w .t) (w .is) (g .equations) (g .unknowns)
 
-    pub examined-good : {f : Found} → Analysed (r .equations) (r .unknowns) (take (r .equations * r .unknowns) after) f → Examined s f
+    pub examined-good : {f : Findings} → Analysed (r .equations) (r .unknowns) (take (r .equations * r .unknowns) after) f → Examined s f
     examined-good d =
         let g = read-good k z in
         let w = g .says in
@@ -91,23 +93,23 @@ module _ {s after : List ℕ} {r : Reading} (h : length s ≤ inputLimit) (k : R
         good-found s (w .name) (w .E) (w .U) (w .t) (w .is) (g .equations) (g .unknowns) after rest h (g .bytes) (g .sized) d
 
 -- the text of what was found
-pub text-refused : (name : List ℕ) (f : Found) {a b : List ℕ} {next : ℕ} → (f .refused ≡ 0 → ⊥)
-    → Laid a 0 (refusedText (f .refused) (f .place)) b next → Laid a 0 (textOf name f) b next
+pub text-refused : (name : List ℕ) (f : Findings) {a b : List ℕ} {next : ℕ} → (f .refused ≡ 0 → ⊥)
+    → Laid a 0 (refusedText (f .refused) (f .place)) b next → Laid a 0 (findingsText name f) b next
 text-refused name f n p = rw (ne-eqb (f .refused) 0 n) p
 
-pub text-solvable : (name : List ℕ) (f : Found) {a b : List ℕ} {next : ℕ} → f .refused ≡ 0 → f .number % 256 ≡ 0
-    → Laid a 0 (solvableText name (f .equations) (f .number) (f .answer)) b next → Laid a 0 (textOf name f) b next
+pub text-solvable : (name : List ℕ) (f : Findings) {a b : List ℕ} {next : ℕ} → f .refused ≡ 0 → f .number % 256 ≡ 0
+    → Laid a 0 (solvableText name (f .equations) (f .number) (f .answer)) b next → Laid a 0 (findingsText name f) b next
 text-solvable name f z c p = rw (eq-eqb (f .refused) 0 z, eq-eqb (f .number % 256) 0 c) p
 
-pub text-singular : (name : List ℕ) (f : Found) {a b : List ℕ} {next : ℕ} → f .refused ≡ 0 → (f .number % 256 ≡ 0 → ⊥)
-    → Laid a 0 (singularText name (f .number) (f .answer)) b next → Laid a 0 (textOf name f) b next
+pub text-singular : (name : List ℕ) (f : Findings) {a b : List ℕ} {next : ℕ} → f .refused ≡ 0 → (f .number % 256 ≡ 0 → ⊥)
+    → Laid a 0 (singularText name (f .number) (f .answer)) b next → Laid a 0 (findingsText name f) b next
 text-singular name f z c p = rw (eq-eqb (f .refused) 0 z, ne-eqb (f .number % 256) 0 c) p
 
 -- ---- the report's two ends: there is no room, and there is
 
-module _ (before : List ℕ) {s name l : List ℕ} {f : Found} {r : ℕ} (k : Examined s f) (e : name ≡ nameOf (judged s))
-    (m : Laid [] 0 (textOf name f) l r) where
-  printed-is : Printed s (textOf name f)
+module _ (before : List ℕ) {s name l : List ℕ} {f : Findings} {r : ℕ} (k : Examined s f) (e : name ≡ nameOf (judged s))
+    (m : Laid [] 0 (findingsText name f) l r) where
+  printed-is : Printed s (findingsText name f)
   printed-is = rw e (k .printed)
 
   pub reported-none : length (l ++ before) < r → Reported s before r (l ++ before)
@@ -115,18 +117,18 @@ module _ (before : List ℕ) {s name l : List ℕ} {f : Found} {r : ℕ} (k : Ex
       let z : l ≡ [] = laid-nothing m in
       let p = m .place in
       let n : length before < r = rw z at h in
-      record { text = textOf name f; printed = printed-is; size = omega arith; bytes = rw (z, lt-leb (length (textOf name f)) (length before) (omega arith)) }
+      record { text = findingsText name f; printed = printed-is; size = omega arith; bytes = rw (z, lt-leb (length (findingsText name f)) (length before) (omega arith)) }
 
-  pub reported-all : {after : List ℕ} {q : ℕ} → r ≤ length (l ++ before) → Laid (l ++ before) 0 (textOf name f) after q → Reported s before q after
+  pub reported-all : {after : List ℕ} {q : ℕ} → r ≤ length (l ++ before) → Laid (l ++ before) 0 (findingsText name f) after q → Reported s before q after
   reported-all {after} {q} h w =
       let z : l ≡ [] = laid-nothing m in
       let p = m .place in
       let n : r ≤ length before = rw z at h in
-      let v : Laid before 0 (textOf name f) after q = rw z at w in
-      let o : 0 + length (textOf name f) ≡ length (textOf name f) = omega arith in
+      let v : Laid before 0 (findingsText name f) after q = rw z at w in
+      let o : 0 + length (findingsText name f) ≡ length (findingsText name f) = omega arith in
       record {
-        text = textOf name f;
+        text = findingsText name f;
         printed = printed-is;
         size = omega (arith, v .place);
-        bytes = v .list ∙ sets-eq (textOf name f) before 0 (omega arith) ∙ rw (o, le-leb (length (textOf name f)) (length before) (omega arith));
+        bytes = v .list ∙ sets-eq (findingsText name f) before 0 (omega arith) ∙ rw (o, le-leb (length (findingsText name f)) (length before) (omega arith));
       }

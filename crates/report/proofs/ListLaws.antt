@@ -14,7 +14,8 @@ use Rattle.card.specs.Text.{dec}
 use Rattle.card.specs.Laid.{Laid}
 use Rattle.card.proofs.PutLaws.{laid-then, dec-short}
 use Rattle.analysis.specs.Outcome.{unused}
-use Rattle.report.specs.Printed.{further, joined, commas, splitOf, usedIn, orNone}
+use Rattle.report.specs.Printed.{further, joined, commas, splitOf, orNone}
+use Rattle.report.specs.Steps.{usedIn}
 
 -- ---- one more number
 

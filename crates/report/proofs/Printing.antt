@@ -1,24 +1,25 @@
--- What is printed for an input is one text, of at most 1,024 bytes; and a good card is never refused by the analysis, so its text is a verdict's.
+-- What is printed for an input is one text, of at most 1,024 bytes: for a good card it is the text of what the analysis hands back, and that is one.
 use mathlib.Core.Path.{_≡_, refl, ap, sym, _∙_}
-use mathlib.Core.Bool.{false}
 use mathlib.Core.List.{List, _++_}
 use Prim.Native.Nat.{ℕ, suc, _*_, _≤_}
 use native.Mathlib.Omega.{arith}
 use lib.Dec.{leb, ltb, eqb}
 use lib.ListN.{length, getD, drop, length-append}
-use borrow.Author.Tests.{le-ltb, ltb-true, ltb-false, eqb-true}
+use borrow.Author.Tests.{ltb-true, ltb-false}
 use Rattle.laws.specs.Tab.{pick}
 use Rattle.laws.proofs.Tests.{test}
-use Rattle.table.specs.Model.{limit, firstAbove}
+use Rattle.table.specs.Model.{limit}
 use Rattle.table.proofs.Model.{limits}
 use Rattle.card.specs.Text.{comma}
 use Rattle.card.specs.Card.{Judged, refused, good, judged}
 use Rattle.card.proofs.PutLaws.{dec-short}
 use Rattle.card.proofs.Readable.{good-card}
-use Rattle.analysis.specs.Outcome.{answerBytes, refusal}
 use Rattle.analysis.proofs.One.{one-outcome}
-use Rattle.report.specs.Printed.{commas, splitOf, codeIn, rankIn, indexIn, freedomIn, stripIn, refusedText, solvableText, singularText, verdictText, Answered, PrintedOf, Printed, inputLimit, Reported}
+use Rattle.report.specs.Printed.{commas, splitOf, refusedText, PrintedOf, Printed, inputLimit, Reported}
+use Rattle.report.specs.Steps.{stripIn, solvableText, singularText, verdictText}
+use Rattle.analysis.specs.Outcome.{codeIn, rankIn, indexIn, freedomIn}
 use Rattle.report.proofs.TextLaws.{joined-short, used-short, strip-short, place-short}
+use Rattle.report.proofs.Truth.{Answered, prints-answered}
 use Rattle.report.proofs.Examining.{name-short}
 
 -- ---- one text
@@ -28,16 +29,16 @@ answered-one {name} {table} {text} {text′} {E} a b =
     let same = one-outcome (a .reply) (b .reply) in
     a .says ∙ ap (λ n. verdictText name E n (a .answer)) (same .0) ∙ ap (λ l. verdictText name E (b .number) l) (same .1) ∙ sym (b .says)
 
-printed-of-one : (j : Judged) {text text′ : List ℕ} → PrintedOf j text → PrintedOf j text′ → text ≡ text′
-printed-of-one (refused m at) a b = a ∙ sym b
-printed-of-one (good name E U t) a b = answered-one a b
-
 -- any two texts that are printed for one input are the same
 pub one-text : {input text text′ : List ℕ} → Printed input text → Printed input text′ → text ≡ text′
-one-text {input} a b =
+one-text {input} {text} {text′} a b =
     test (ltb inputLimit (length input))
     (λ t. let h = ltb-true inputLimit (length input) t in a .long h ∙ sym (b .long h))
-    (λ t. let h = ltb-false inputLimit (length input) t in printed-of-one (judged input) (a .short h) (b .short h))
+    (λ t. let h = ltb-false inputLimit (length input) t in go (judged input) refl (a .short h) (b .short h))
+  where
+    go : (j : Judged) → judged input ≡ j → PrintedOf j text → PrintedOf j text′ → text ≡ text′
+    go (refused m at) q x y = x ∙ sym y
+    go (good name E U t) q x y = answered-one (prints-answered input q x) (prints-answered input q y)
 
 -- and so are any two reports
 pub one-report : {input before after after′ : List ℕ} {handed handed′ : ℕ} → Reported input before handed after → Reported input before handed′ after′
@@ -90,7 +91,8 @@ text-short {input} {text} p =
   where
     go : (j : Judged) → judged input ≡ j → PrintedOf j text → length text ≤ 1024
     go (refused m at) q w = rw w (refused-short m at)
-    go (good name E U t) q w =
+    go (good name E U t) q p =
+        let w = prints-answered input q p in
         let g = good-card input name E U t q .fine in
         let n : length name ≤ 24 = rw q at (name-short input) in
         let m = limits E U (g .limits) in
@@ -101,13 +103,3 @@ text-short {input} {text} p =
 
 pub report-short : {input before after : List ℕ} {handed : ℕ} → Reported input before handed after → handed ≤ 1024
 report-short k = rw (k .size) (text-short (k .printed))
-
--- ---- a good card's text is a verdict's
-
--- its table is not refused by the analysis
-pub good-analysed : (input name : List ℕ) (E U : ℕ) (t : List ℕ) → judged input ≡ good name E U t → refusal E U t answerBytes ≡ 0
-good-analysed input name E U t q =
-    let g = good-card input name E U t q .fine in
-    let c : ltb (firstAbove t) (length t) ≡ false
-    = le-ltb (firstAbove t) (length t) (let z = eqb-true (firstAbove t) (length t) (g .codes) in omega arith) in
-    rw (g .limits, g .sized, c)

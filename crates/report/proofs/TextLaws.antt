@@ -14,9 +14,9 @@ use Rattle.card.specs.Text.{LF, digitOf, dec}
 use Rattle.card.specs.Laid.{Laid}
 use Rattle.card.proofs.PutLaws.{laid-then, dec-short}
 use Rattle.card.proofs.WriteLaws.{laid-same}
-use Rattle.analysis.specs.Outcome.{answerBytes}
-use Rattle.report.specs.Printed.{field, further, joined, commas, orNone, usedIn, stripIn, rankIn, indexIn, freedomIn, placeDec, refusedText, singularText, solvableText}
-use Rattle.report.specs.Steps.{headText, stripsText}
+use Rattle.analysis.specs.Outcome.{answerBytes, rankIn, indexIn, freedomIn}
+use Rattle.report.specs.Printed.{field, further, joined, commas, orNone, placeDec, refusedText}
+use Rattle.report.specs.Steps.{usedIn, stripIn, singularText, solvableText, headText, stripsText}
 use Rattle.report.proofs.ListLaws.{used-within}
 
 -- ---- how long

@@ -1,33 +1,30 @@
 -- What is printed for a good card is what holds of its model: the numbers are taken off whole, and the strips are the lists of the analysis.
 use mathlib.Core.Path.{_≡_, refl, ap, sym, _∙_}
-use mathlib.Core.Bool.{true}
+use mathlib.Core.Bool.{true, false, _&&_}
 use mathlib.Core.List.{List, [], _∷_, _++_, map, append-assoc}
-use Prim.Native.Nat.{ℕ, zero, suc, _+_, _-_, _*_, _/_, _%_, _≤_, _<_}
+use Prim.Native.Nat.{ℕ, zero, suc, _+_, _-_, _*_, _≤_, _<_}
 use native.Mathlib.Omega.{arith}
-use lib.Arith.{digits-div, digits-mod}
-use lib.Dec.{leb}
+use lib.Dec.{leb, ltb, eqb}
 use lib.ListN.{length, getD, take, drop, replicate, length-append, length-replicate, length-map}
 use lib.Seq.{take-at, drop-append-add}
-use borrow.Author.Tests.{ne-eqb, leb-true, leb-false, eqb-true}
+use borrow.Author.Tests.{eq-eqb, ne-eqb, le-ltb, leb-true, leb-false, eqb-true}
 use Rattle.laws.proofs.Tab.{is-tab, copies-at}
-use Rattle.laws.proofs.Tests.{test, and-both}
+use Rattle.laws.proofs.Tests.{test, clash, and-left, and-right, and-both}
 use Rattle.table.specs.Model.{limit, wellSized, firstAbove, occursAt, orderAt, rowsOf}
 use Rattle.table.proofs.Model.{sized}
-use Rattle.pairing.specs.Pairing.{Listed}
-use Rattle.pairing.proofs.Sizes.{size-rows}
+use Rattle.pairing.specs.Pairing.{Rel, Listed}
+use Rattle.pairing.proofs.Sizes.{rank-one}
+use Rattle.pairing.proofs.Solve.{solvable-rank}
 use Rattle.counts.specs.Fit.{indexOf, freedomOf}
-use Rattle.counts.specs.Work.{topOrder}
 use Rattle.laws.specs.Tab.{numberAt}
-use Rattle.counts.proofs.Fit.{freedom-high}
-use Rattle.counts.proofs.Gap.{index-bound}
-use Rattle.counts.proofs.Pairable.{judged}
 use Rattle.card.specs.Card as Read
 use Rattle.card.specs.Card.{good}
 use Rattle.card.proofs.Readable.{good-card}
-use Rattle.analysis.specs.Outcome.{unused, strip, strips, answerBytes, Singular, Solved, Verdict}
+use Rattle.analysis.specs.Outcome.{unused, strip, strips, answerBytes, refusal, Singular, Solved, Reply}
+use Rattle.analysis.proofs.Packed.{Six, reads-back}
 use Rattle.analysis.proofs.Strips.{strip-length}
-use Rattle.report.specs.Printed.{codeIn, rankIn, indexIn, freedomIn, stripIn, usedIn, singularLines, solvableLines, singularText, solvableText, verdictText, Answered}
-use Rattle.report.proofs.Printing.{good-analysed}
+use Rattle.report.specs.Printed.{singularLines, solvableLines, PrintsModel, solvable, singular}
+use Rattle.report.specs.Steps.{stripIn, usedIn, singularText, solvableText, verdictText}
 
 -- ---- a strip is its list and unused places
 
@@ -114,40 +111,38 @@ module _ {n : ℕ} {P : ℕ → Type 0} {l : List ℕ} (k : Listed n P l) where
       ∙ strip-is (map suc l) (rw (length-map l suc) (omega (arith, listed-short))))
       ∙ used-list l (limit - length (map suc l)) (λ i b. let c = k .only i b .0 in omega arith)
 
--- ---- a byte of a number, taken off whole
-
-taken : (unit low b high : ℕ) {n : ℕ} → n ≡ (high * 256 + b) * unit + low → low < unit → b < 256 → n / unit % 256 ≡ b
-taken unit low b high e h k = rw (e, digits-div (high * 256 + b) h) (digits-mod high k)
-
 -- ---- the two verdicts
 
-module _ (name : List ℕ) (E U : ℕ) (t : List ℕ) {before after : List ℕ} {rank number : ℕ}
-    (w : wellSized E U t ≡ true) (f : firstAbove t ≡ length t) where
-  pub singular-says : (s : Singular E U (occursAt (rowsOf E U t)) rank before number after) → rank ≤ E
+-- a solvable model's outcome, and the six numbers that its number holds
+record Whole (n : ℕ) (edge : Rel) (ord : ℕ → ℕ → ℕ) (rank : ℕ) (before : List ℕ) (number : ℕ) (after : List ℕ) : Type 0 where
+  solved : Solved n edge ord rank before number after
+  six : Six number 0 0 rank (indexOf n (numberAt (solved .counts))) (freedomOf n n (numberAt (solved .counts)) (numberAt (solved .tops))) (solved .blocks)
+
+module _ (name : List ℕ) (E U : ℕ) (t : List ℕ) {before after : List ℕ} {rank number : ℕ} (w : wellSized E U t ≡ true) where
+  singular-says : (s : Singular E U (occursAt (rowsOf E U t)) rank before number after) → Six number 10 0 rank 0 0 0
       → verdictText name E number after ≡ singularLines name rank (map suc (s .surplus)) (map suc (s .unfixed))
   unfolding singularText answer
-  singular-says s r =
+  singular-says s x =
       let m = sized E U t w in
       let rest = drop answerBytes before in
       let a = map suc (s .surplus) in
       let b = map suc (s .unfixed) in
-      let code : codeIn number ≡ 10 = let q = s .says in omega arith in
-      let high = m .equations .high in
-      let whole : rankIn number ≡ rank = taken 16777216 10 rank 0 (s .says ∙ omega arith) (omega arith) (omega arith) in
       let first : usedIn (stripIn 0 limit after) ≡ a
       = ap (λ x. usedIn (take limit x)) (s .holds ∙ in-row a b [] [] [] rest)
       ∙ used-members (s .allSurplus) (strip b ++ (strip [] ++ (strip [] ++ (strip [] ++ rest)))) (m .equations .high) in
       let second : usedIn (stripIn 1 limit after) ≡ b
       = ap (λ x. usedIn (take limit (drop (1 * limit) x))) (s .holds) ∙ ap (λ x. usedIn (take limit x)) (from-second a b [] [] [] rest)
       ∙ used-members (s .allUnfixed) (strip [] ++ (strip [] ++ (strip [] ++ rest))) (m .unknowns .high) in
-      rw (code, whole, first, second)
+      rw (x .isCode, x .isRank, first, second)
 
-  pub solvable-says : (s : Solved E (occursAt (rowsOf E U t)) (orderAt (rowsOf E U t)) rank before number after) → E ≡ U → rank ≡ E
+  solvable-says : (k : Whole E (occursAt (rowsOf E U t)) (orderAt (rowsOf E U t)) rank before number after)
       → verdictText name E number after
-      ≡ solvableLines name (indexOf E (numberAt (s .counts))) (freedomOf E E (numberAt (s .counts)) (numberAt (s .tops))) (s .counts) (s .tops)
-      (map suc (s .partner)) (map suc (s .order)) (s .block)
+      ≡ solvableLines name (indexOf E (numberAt (k .solved .counts))) (freedomOf E E (numberAt (k .solved .counts)) (numberAt (k .solved .tops)))
+      (k .solved .counts) (k .solved .tops) (map suc (k .solved .partner)) (map suc (k .solved .order)) (k .solved .block)
   unfolding solvableText answer
-  solvable-says s e r =
+  solvable-says k =
+      let s = k .solved in
+      let x = k .six in
       let m = sized E U t w in
       let high = m .equations .high in
       let rest = drop answerBytes before in
@@ -156,20 +151,6 @@ module _ (name : List ℕ) (E U : ℕ) (t : List ℕ) {before after : List ℕ} 
       let c = map suc (s .partner) in
       let d = map suc (s .order) in
       let g = s .block in
-      let small : (i u : ℕ) → i < E → u < E → orderAt (rowsOf E U t) i u ≤ topOrder
-      = λ i u x y. let z = judged E U t w f i u x (omega arith) in omega arith in
-      let index : indexOf E (numberAt a) ≤ (E - 1) * topOrder
-      = index-bound E E topOrder (occursAt (rowsOf E U t)) (orderAt (rowsOf E U t)) small (numberAt a) (numberAt b) (s .least) in
-      let freedom : freedomOf E E (numberAt a) (numberAt b) ≤ E * topOrder
-      = freedom-high E topOrder (occursAt (rowsOf E U t)) (orderAt (rowsOf E U t)) (numberAt a) (numberAt b) (s .least .fit) small in
-      let q = s .says in
-      let code : codeIn number ≡ 0 = omega arith in
-      let figure = indexOf E (numberAt a) in
-      let rest-of = freedomOf E E (numberAt a) (numberAt b) in
-      let whole : indexIn number ≡ figure
-      = taken 4294967296 (rank * 16777216) figure (rest-of + s .blocks * 256) (q ∙ omega arith) (omega arith) (omega arith) in
-      let all : freedomIn number ≡ rest-of
-      = taken 1099511627776 (rank * 16777216 + figure * 4294967296) rest-of (s .blocks) (q ∙ omega arith) (omega arith) (omega arith) in
       let first : stripIn 0 E after ≡ a
       = ap (take E) (s .holds ∙ in-row a b c d g rest)
       ∙ strip-front a (strip b ++ (strip c ++ (strip d ++ (strip g ++ rest)))) E (s .sizes .0) high in
@@ -184,32 +165,78 @@ module _ (name : List ℕ) (E U : ℕ) (t : List ℕ) {before after : List ℕ} 
       ∙ strip-front d (strip g ++ rest) E (length-map (s .order) suc ∙ s .sizes .3) high in
       let fifth : stripIn 4 E after ≡ g
       = ap (λ x. take E (drop (4 * limit) x)) (s .holds) ∙ ap (take E) (from-fifth a b c d g rest) ∙ strip-front g rest E (s .sizes .4) high in
-      rw (code, whole, all, first, second, third, fourth, fifth)
+      rw (x .isCode, x .isIndex, x .isFreedom, first, second, third, fourth, fifth)
 
 -- ---- what is printed for a good card
 
-module _ (input name : List ℕ) (E U : ℕ) (t : List ℕ) (q : Read.judged input ≡ good name E U t) {text : List ℕ} (a : Answered name E U t text) where
+-- the text of what the analysis hands back for a table
+pub record Answered (name : List ℕ) (E U : ℕ) (table text : List ℕ) : Type 0 where
+  pub number : ℕ
+  pub answer : List ℕ
+  pub reply : Reply E U table (replicate answerBytes 0) number answer
+  pub says : text ≡ verdictText name E number answer
+
+module _ (input : List ℕ) {name t : List ℕ} {E U : ℕ} (q : Read.judged input ≡ good name E U t) where
   well-sized : wellSized E U t ≡ true
   well-sized = let g = good-card input name E U t q .fine in and-both (g .limits) (g .sized)
 
-  none-above : firstAbove t ≡ length t
-  none-above = eqb-true (firstAbove t) (length t) (good-card input name E U t q .fine .codes)
+  -- its table is not refused by the analysis
+  not-refused : refusal E U t answerBytes ≡ 0
+  not-refused =
+      let g = good-card input name E U t q .fine in
+      let c : ltb (firstAbove t) (length t) ≡ false
+      = le-ltb (firstAbove t) (length t) (let z = eqb-true (firstAbove t) (length t) (g .codes) in omega arith) in
+      rw (g .limits, g .sized, c)
 
-  -- the verdict on the card's table: a good card is never refused
-  pub verdict : Verdict E U (occursAt (rowsOf E U t)) (orderAt (rowsOf E U t)) (replicate answerBytes 0) (a .number) (a .answer)
-  verdict = a .reply .verdict (good-analysed input name E U t q)
+  -- that text is what is printed of the model
+  pub answered-prints : {text : List ℕ} → Answered name E U t text → PrintsModel name E U (occursAt (rowsOf E U t)) (orderAt (rowsOf E U t)) text
+  answered-prints a =
+      let v = a .reply .verdict not-refused in
+      test (eqb E U && eqb (v .rank) E)
+      (λ b.
+      let e = eqb-true E U (and-left (eqb E U) (eqb (v .rank) E) b) in
+      let r = eqb-true (v .rank) E (and-right (eqb E U) (eqb (v .rank) E) b) in
+      let w : Whole E (occursAt (rowsOf E U t)) (orderAt (rowsOf E U t)) (v .rank) (replicate answerBytes 0) (a .number) (a .answer)
+      = record { solved = v .solvable e r; six = reads-back (a .reply) .solvable not-refused e r } in
+      let k = rw r at w in
+      solvable (solvable-rank .1 (e, rw r at (v .ranked)))
+      (record { number = a .number; answer = a .answer; solved = k .solved; says = a .says ∙ solvable-says name E U t well-sized k }))
+      (λ b.
+      let n : E ≡ U → v .rank ≡ E → ⊥ = λ e r. clash (and-both (eq-eqb E U e) (eq-eqb (v .rank) E r)) b in
+      singular (λ s. n (solvable-rank .0 s .0) (rank-one (v .ranked) (solvable-rank .0 s .1)))
+      (record {
+        rank = v .rank;
+        ranked = v .ranked;
+        number = a .number;
+        answer = a .answer;
+        lists = v .singular n;
+        says = a .says ∙ singular-says name E U t well-sized (v .singular n) (reads-back (a .reply) .singular not-refused n);
+      }))
 
-  -- a solvable model: its least counts, their tops, the first partners and the placing of its blocks
-  pub prints-solvable : (e : E ≡ U) (r : verdict .rank ≡ E)
-      → text ≡ solvableLines name (indexOf E (numberAt (verdict .solvable e r .counts)))
-      (freedomOf E E (numberAt (verdict .solvable e r .counts)) (numberAt (verdict .solvable e r .tops))) (verdict .solvable e r .counts)
-      (verdict .solvable e r .tops) (map suc (verdict .solvable e r .partner)) (map suc (verdict .solvable e r .order)) (verdict .solvable e r .block)
-  prints-solvable e r = a .says ∙ solvable-says name E U t well-sized none-above (verdict .solvable e r) e r
-
-  -- any other: its rank, and every equation that is surplus and every unknown that is unfixed
-  pub prints-singular : (n : E ≡ U → verdict .rank ≡ E → ⊥)
-      → text ≡ singularLines name (verdict .rank) (map suc (verdict .singular n .surplus)) (map suc (verdict .singular n .unfixed))
-  prints-singular n = a .says ∙ singular-says name E U t well-sized none-above (verdict .singular n) rank-small
-    where
-      rank-small : verdict .rank ≤ E
-      rank-small = let k = verdict .ranked in rw (← k .counts) (size-rows E U (k .pairs))
+  -- and what is printed of the model is that text
+  pub prints-answered : {text : List ℕ} → PrintsModel name E U (occursAt (rowsOf E U t)) (orderAt (rowsOf E U t)) text → Answered name E U t text
+  prints-answered (solvable s p) =
+      let (e, k) = solvable-rank .0 s in
+      let reply : Reply E U t (replicate answerBytes 0) (p .number) (p .answer) = record {
+        refused = λ n. absurd (n not-refused);
+        verdict = λ _. record { rank = E; ranked = k; solvable = λ _ _. p .solved; singular = λ n. absurd (n e refl) };
+      } in
+      let six = reads-back reply .solvable not-refused e refl in
+      record {
+        number = p .number;
+        answer = p .answer;
+        reply = reply;
+        says = p .says ∙ sym (solvable-says name E U t well-sized (record { solved = p .solved; six = six }));
+      }
+  prints-answered (singular n p) =
+      let k : E ≡ U → p .rank ≡ E → ⊥ = λ e r. n (solvable-rank .1 (e, rw r at (p .ranked))) in
+      let reply : Reply E U t (replicate answerBytes 0) (p .number) (p .answer) = record {
+        refused = λ n. absurd (n not-refused);
+        verdict = λ _. record { rank = p .rank; ranked = p .ranked; solvable = λ e r. absurd (k e r); singular = λ _. p .lists };
+      } in
+      record {
+        number = p .number;
+        answer = p .answer;
+        reply = reply;
+        says = p .says ∙ sym (singular-says name E U t well-sized (p .lists) (reads-back reply .singular not-refused k));
+      }

@@ -1,17 +1,18 @@
 -- Document 01, "The printed result": the bytes that the program prints for the bytes of a card. Every line ends in LF.
 use mathlib.Core.Path.{_≡_}
-use mathlib.Core.List.{List, [], _∷_, _++_}
-use Prim.Native.Nat.{ℕ, suc, _*_, _/_, _<_, _≤_}
+use mathlib.Core.List.{List, [], _∷_, _++_, map}
+use Prim.Native.Nat.{ℕ, suc, _/_, _<_, _≤_}
 use Prim.Native.String.{String}
 use lib.Dec.{leb, ltb, eqb}
-use lib.ListN.{length, getD, take, drop, replicate}
-use Rattle.laws.specs.Tab.{pick}
+use lib.ListN.{length, getD, drop, replicate}
+use Rattle.laws.specs.Tab.{pick, numberAt}
 use Rattle.laws.specs.Text.{bytes}
-use Rattle.table.specs.Model.{limit}
+use Rattle.table.specs.Model.{occursAt, orderAt, rowsOf}
+use Rattle.pairing.specs.Pairing.{Rel, Rank, Solvable}
+use Rattle.counts.specs.Fit.{indexOf, freedomOf}
 use Rattle.card.specs.Text.{LF, comma, digitOf, dec}
 use Rattle.card.specs.Card.{Judged, refused, good, judged}
-use Rattle.analysis.specs.Outcome.{unused, answerBytes, Reply}
-pub use Rattle.analysis.specs.Outcome.{codeIn, rankIn, indexIn, freedomIn}
+use Rattle.analysis.specs.Outcome.{answerBytes, Solved, Singular}
 
 -- ---- Lines and lists
 
@@ -79,41 +80,37 @@ placeDec n =
 unfoldable pub refusedText : ℕ → ℕ → List ℕ
 refusedText number place = field "refused=" (dec number) ++ field "place=" (placeDec place)
 
--- ---- What the analysis handed back: the bytes of its number (`codeIn`, ..), and the strips of its answer
+-- ---- What is printed for a good card: what holds of its model
+-- Number and answer are what the analysis hands back for the same table, into a buffer of five strips.
 
--- the first n places of a strip; strips count from 0
-abbrev pub stripIn : ℕ → ℕ → List ℕ → List ℕ
-stripIn k n answer = take n (drop (k * limit) answer)
+-- a solvable model of n equations: its least counts, their tops, the first partners and the placing of its blocks
+pub record PrintsSolvable (name : List ℕ) (n : ℕ) (edge : Rel) (ord : ℕ → ℕ → ℕ) (text : List ℕ) : Type 0 where
+  pub number : ℕ
+  pub answer : List ℕ
+  pub solved : Solved n edge ord n (replicate answerBytes 0) number answer
+  pub says : text
+      ≡ solvableLines name (indexOf n (numberAt (solved .counts))) (freedomOf n n (numberAt (solved .counts)) (numberAt (solved .tops)))
+      (solved .counts) (solved .tops) (map suc (solved .partner)) (map suc (solved .order)) (solved .block)
 
--- the places of a strip that are used: those before the first 255
-abbrev pub usedIn : List ℕ → List ℕ
-usedIn [] = []
-usedIn (x ∷ l) = pick (eqb x unused) [] (x ∷ usedIn l)
+-- any other: the size of a largest pairing, every surplus equation and every unfixed unknown
+pub record PrintsSingular (name : List ℕ) (E U : ℕ) (edge : Rel) (text : List ℕ) : Type 0 where
+  pub rank : ℕ
+  pub ranked : Rank E U edge rank
+  pub number : ℕ
+  pub answer : List ℕ
+  pub lists : Singular E U edge rank (replicate answerBytes 0) number answer
+  pub says : text ≡ singularLines name rank (map suc (lists .surplus)) (map suc (lists .unfixed))
 
-unfoldable pub solvableText : List ℕ → ℕ → ℕ → List ℕ → List ℕ
-solvableText name n number answer =
-    solvableLines name (indexIn number) (freedomIn number) (stripIn 0 n answer) (stripIn 1 n answer) (stripIn 2 n answer)
-    (stripIn 3 n answer) (stripIn 4 n answer)
-
-unfoldable pub singularText : List ℕ → ℕ → List ℕ → List ℕ
-singularText name number answer = singularLines name (rankIn number) (usedIn (stripIn 0 limit answer)) (usedIn (stripIn 1 limit answer))
-
--- code 0 is solvable, any other verdict singular
-abbrev pub verdictText : List ℕ → ℕ → ℕ → List ℕ → List ℕ
-verdictText name n number answer = pick (eqb (codeIn number) 0) (solvableText name n number answer) (singularText name number answer)
+-- "called solvable exactly if some pairing takes in all equations and all unknowns"
+pub data PrintsModel (name : List ℕ) (E U : ℕ) (edge : Rel) (ord : ℕ → ℕ → ℕ) (text : List ℕ) : Type 0 where
+  solvable : Solvable E U edge → PrintsSolvable name E edge ord text → PrintsModel name E U edge ord text
+  singular : (Solvable E U edge → ⊥) → PrintsSingular name E U edge text → PrintsModel name E U edge ord text
 
 -- ---- What is printed
 
--- of a good card: the text of what the analysis hands back for its table, with an answer buffer of five strips
-pub record Answered (name : List ℕ) (E U : ℕ) (table text : List ℕ) : Type 0 where
-  pub number : ℕ
-  pub answer : List ℕ
-  pub reply : Reply E U table (replicate answerBytes 0) number answer
-  pub says : text ≡ verdictText name E number answer
-
 abbrev pub PrintedOf : Judged → List ℕ → Type 0
 PrintedOf (refused number place) text = text ≡ refusedText number place
-PrintedOf (good name E U table) text = Answered name E U table text
+PrintedOf (good name E U table) text = PrintsModel name E U (occursAt (rowsOf E U table)) (orderAt (rowsOf E U table)) text
 
 -- "19: input above 16,384 bytes", judged first; its place is 0
 abbrev pub inputLimit : ℕ

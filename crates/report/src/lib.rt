@@ -8,6 +8,7 @@ use crate::text::put_solvable;
 use analysis::mudorder_analyse;
 use card::name_of;
 use card::read;
+use table::CELLS;
 use table::LIMIT;
 ghost use mathlib.Core.Path.{_≡_};
 ghost use Prim.Native.Nat.{_*_, _≤_};
@@ -15,7 +16,7 @@ ghost use lib.ListN.{length};
 ghost use Rattle.table.specs.Model.{limit};
 ghost use Rattle.card.specs.Laid.{Laid};
 ghost use Rattle.report.specs.Printed.{Reported};
-ghost use Rattle.report.specs.Steps.{refusedAs, textOf, Analysed, Examined};
+ghost use Rattle.report.specs.Steps.{refusedAs, findingsText, Analysed, Examined};
 
 // The most bytes of input that are read as a card.
 pub const INPUT_LIMIT: usize = 16384;
@@ -23,13 +24,11 @@ pub const INPUT_LIMIT: usize = 16384;
 // No text is longer.
 pub const TEXT_LIMIT: usize = 1024;
 
-// The most codes of a table, and the five strips of an answer.
-const CELLS: usize = LIMIT * LIMIT;
-
+// The five strips of an answer.
 const ANSWER: usize = 5 * LIMIT;
 
 // What a card comes to: a refusal, or with refused 0 what the analysis handed back.
-pub struct Found {
+pub struct Findings {
     pub refused: u8,
     pub place: usize,
     pub equations: usize,
@@ -37,10 +36,10 @@ pub struct Found {
     pub answer: [u8; ANSWER],
 }
 
-fn refused(number: u8, place: usize) -> Found
+fn refused(number: u8, place: usize) -> Findings
     ensures { λ r. ⌜ r ≡ refusedAs number place ⌝ }
 {
-    Found {
+    Findings {
         refused: number,
         place,
         equations: 0,
@@ -49,12 +48,12 @@ fn refused(number: u8, place: usize) -> Found
     }
 }
 
-fn analysed(equations: usize, unknowns: usize, table: &[u8]) -> Found
+fn analysed(equations: usize, unknowns: usize, table: &[u8]) -> Findings
     ensures { λ r. ⌜ Analysed equations unknowns (now (table .entry)) r ⌝ }
 {
     let mut answer = [0u8; ANSWER];
     let number = mudorder_analyse(equations, unknowns, table, &mut answer);
-    Found {
+    Findings {
         refused: 0,
         place: 0,
         equations,
@@ -64,7 +63,7 @@ fn analysed(equations: usize, unknowns: usize, table: &[u8]) -> Found
 }
 
 // The card judged, and a good one analysed.
-fn examined(card: &[u8]) -> Found
+fn examined(card: &[u8]) -> Findings
     ensures { λ r. ⌜ Examined (now (card .entry)) r ⌝ }
 {
     if INPUT_LIMIT < card.len() {
@@ -80,9 +79,9 @@ fn examined(card: &[u8]) -> Found
 }
 
 // The text of what was found.
-fn put_text(out: &mut [u8], name: &[u8], found: Found) -> usize
+fn put_text(out: &mut [u8], name: &[u8], found: Findings) -> usize
     requires { ⌜ (length (now name) ≤ 24) × (found .equations ≤ limit) ⌝ }
-    ensures { λ r. ⌜ Laid (now (out .entry)) 0 (textOf (now (name .entry)) found) (now (out .exit)) r ⌝ }
+    ensures { λ r. ⌜ Laid (now (out .entry)) 0 (findingsText (now (name .entry)) found) (now (out .exit)) r ⌝ }
 {
     if found.refused != 0 {
         return put_refused(out, found.refused, found.place);

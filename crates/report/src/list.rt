@@ -1,4 +1,5 @@
 // Lists of numbers, laid as text.
+use analysis::strip::UNUSED;
 use card::put::put;
 use card::put::put_all;
 use card::put::put_number;
@@ -8,10 +9,8 @@ ghost use Prim.Native.Nat.{_+_, _*_, _^_, _≤_, _<_};
 ghost use lib.ListN.{length};
 ghost use Rattle.card.specs.Text.{dec};
 ghost use Rattle.card.specs.Laid.{Laid};
-ghost use Rattle.report.specs.Printed.{commas, splitOf, blocksOf, usedIn, orNone};
-
-// What an unused place of a strip holds.
-const UNUSED: u8 = 255;
+ghost use Rattle.report.specs.Printed.{commas, splitOf, blocksOf, orNone};
+ghost use Rattle.report.specs.Steps.{usedIn};
 
 fn wide(number: u8) -> usize
     ensures { λ r. ⌜ r ≡ number ⌝ }

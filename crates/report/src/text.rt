@@ -16,8 +16,8 @@ ghost use Rattle.table.specs.Model.{limit};
 ghost use Rattle.analysis.specs.Outcome.{answerBytes};
 ghost use Rattle.card.specs.Text.{LF};
 ghost use Rattle.card.specs.Laid.{Laid};
-ghost use Rattle.report.specs.Printed.{commas, stripIn, placeDec, refusedText, singularText, solvableText};
-ghost use Rattle.report.specs.Steps.{headText, leftText, orderText, stripsText};
+ghost use Rattle.report.specs.Printed.{commas, placeDec, refusedText};
+ghost use Rattle.report.specs.Steps.{headText, leftText, orderText, singularText, solvableText, stripIn, stripsText};
 
 // The first places of a strip; strips count from 0.
 fn strip(answer: &[u8], k: usize, n: usize) -> &[u8]
