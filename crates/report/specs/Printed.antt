@@ -81,6 +81,7 @@ unfoldable pub refusedText : ℕ → ℕ → List ℕ
 refusedText number place = field "refused=" (dec number) ++ field "place=" (placeDec place)
 
 -- ---- What is printed for a good card: what holds of its model
+-- The lists have equations and unknowns by their places, counted from 0; the printed numbers are one more.
 -- Number and answer are what the analysis hands back for the same table, into a buffer of five strips.
 
 -- a solvable model of n equations: its least counts, their tops, the first partners and the placing of its blocks
