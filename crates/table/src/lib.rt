@@ -6,3 +6,6 @@ pub mod rows;
 
 // The most equations, and the most unknowns, that a model may have; `limit` in specs/Model is the same number.
 pub const LIMIT: usize = 32;
+
+// The most codes that a table may have.
+pub const CELLS: usize = LIMIT * LIMIT;
