@@ -3,6 +3,7 @@
 # Written from the document alone, by patterns and dictionaries, so that it shares nothing with the crate that it is held against.
 import re, os
 
+LIMIT = 32                                           # the most equations, and the most unknowns
 NUM = rb'(0|[1-9][0-9]{0,3})'
 
 def judge(s):
@@ -20,11 +21,11 @@ def judge(s):
     m = re.fullmatch(rb'equations=' + NUM + rb'\n', text[1])
     if not m: return fault(11, 1)
     E = int(m.group(1))
-    if not 1 <= E <= 32: return fault(13, 1)
+    if not 1 <= E <= LIMIT: return fault(13, 1)
     m = re.fullmatch(rb'unknowns=' + NUM + rb'\n', text[2])
     if not m: return fault(11, 2)
     U = int(m.group(1))
-    if not 1 <= U <= 32: return fault(13, 2)
+    if not 1 <= U <= LIMIT: return fault(13, 2)
     pairs, before, i = {}, None, 3
     while not text[i].startswith(b'end='):
         m = re.fullmatch(rb'occurs=' + NUM + b',' + NUM + b',' + NUM + rb'\n', text[i])
@@ -63,7 +64,9 @@ def line(s):
 
 KESTREL = b'rig=kestrel-4\nequations=3\nunknowns=3\noccurs=1,1,1\noccurs=1,3,0\noccurs=2,2,0\noccurs=2,3,0\noccurs=3,1,0\nend=5\n'
 HEAD = b'rig=a\nequations=3\nunknowns=3\n'
-FULL = card(b'abcdefghijklmnopqrstuvwx', 32, 32, {(e, u): 3 for e in range(1, 33) for u in range(1, 33)})
+MOST, MORE = b'%d' % LIMIT, b'%d' % (LIMIT + 1)
+END = b'end=%d\n' % LIMIT ** 2
+FULL = card(b'abcdefghijklmnopqrstuvwx', LIMIT, LIMIT, {(e, u): 3 for e in range(1, LIMIT + 1) for u in range(1, LIMIT + 1)})
 assert len(FULL) == 14847
 def head(e, u): return b'rig=a\nequations=' + e + b'\nunknowns=' + u + b'\n'
 
@@ -73,9 +76,9 @@ CASES = [
     b'rig=a\nend=0\n', b'rig=a\nequations=1\nend=0\n', b'rig=a\nequations=1\n', b'rig=a\nequations=1\nunknowns=1',
     b'rig=abcdefghijklmnopqrstuvwx\nequations=1\nunknowns=1\nend=0\n', b'rig=abcdefghijklmnopqrstuvwxy\nequations=1\nunknowns=1\nend=0\n',
     b'rig=Kestrel\nequations=1\n', b'rig=a b\n', b'rig=0-9\nequations=1\nunknowns=1\nend=0\n', b'rig=a\r\nequations=1\n',
-    head(b'', b'3'), head(b'0', b'3'), head(b'0032', b'3'), head(b'10000', b'3'), head(b'9999', b'3'), head(b'33', b'3'), head(b'+3', b'3'), head(b'3 ', b'3'),
-    head(b'0', b''), head(b'3', b''), head(b'3', b'0'), head(b'3', b'0032'), head(b'3', b'10000'), head(b'3', b'9999'), head(b'3', b'33'),
-    head(b'32', b'32') + b'end=0\n', head(b'1', b'1') + b'end=0\n', head(b'4', b'4') + b'occurs=4,4,3\nend=1\n', head(b'4', b'5') + b'occurs=4,5,3\nend=1\n',
+    head(b'', b'3'), head(b'0', b'3'), head(b'00' + MOST, b'3'), head(b'10000', b'3'), head(b'9999', b'3'), head(MORE, b'3'), head(b'+3', b'3'), head(b'3 ', b'3'),
+    head(b'0', b''), head(b'3', b''), head(b'3', b'0'), head(b'3', b'00' + MOST), head(b'3', b'10000'), head(b'3', b'9999'), head(b'3', MORE),
+    head(MOST, MOST) + b'end=0\n', head(b'1', b'1') + b'end=0\n', head(b'4', b'4') + b'occurs=4,4,3\nend=1\n', head(b'4', b'5') + b'occurs=4,5,3\nend=1\n',
     HEAD + b'occurs=4,1,0\nend=1\n', HEAD + b'occurs=0,1,0\nend=1\n', HEAD + b'occurs=1,4,0\nend=1\n', HEAD + b'occurs=1,0,0\nend=1\n',
     HEAD + b'occurs=1,1,4\nend=1\n', HEAD + b'occurs=1,1,10\nend=1\n', HEAD + b'occurs=9999,9999,9999\nend=1\n', HEAD + b'occurs=1,1,3\nend=1\n',
     HEAD + b'occurs=2,2,0\noccurs=2,2,0\nend=2\n', HEAD + b'occurs=2,2,0\noccurs=2,1,0\nend=2\n', HEAD + b'occurs=2,2,0\noccurs=1,3,0\nend=2\n',
@@ -85,7 +88,7 @@ CASES = [
     HEAD + b'occurs=1,1,00\nend=1\n', HEAD + b'occurs= 1,1,1\nend=1\n', HEAD + b'Occurs=1,1,1\nend=1\n', HEAD + b'occurs=1,1,1\r\nend=1\n', HEAD + b'occurs=10000,1,1\nend=1\n',
     HEAD + b'occurs=1,1,1\nend=0\n', HEAD + b'occurs=1,1,1\nend=2\n', HEAD + b'occurs=1,1,1\nend=2\nmore', HEAD + b'occurs=1,1,1\nend=01\n', HEAD + b'occurs=1,1,1\nend=\n',
     HEAD + b'end=9999\n', HEAD + b'end=10000\n', HEAD + b'end=0', HEAD + b'end=0 \n', HEAD + b'ends=0\n', HEAD + b'occurs=1,1,1\n', HEAD + b'occurs=1,1,1', HEAD,
-    FULL, FULL[:-9] + b'occurs=32,32,3\nend=1025\n', FULL + b'x',
+    FULL, FULL[:-len(END)] + b'occurs=%s,%s,3\nend=%d\n' % (MOST, MOST, LIMIT ** 2 + 1), FULL + b'x',
 ]
 assert all(b'~' not in c for c in CASES) and sum(len(c) + 1 for c in CASES) <= 65536
 

@@ -5,42 +5,28 @@ use blocks::place::Placing;
 use blocks::place::solve_order;
 use counts::lead::leading_rows;
 use counts::raise::least;
-use libc::STDOUT_FILENO;
 use pairing::first::first;
 use pairing::left::left_over;
+use shown::printing::print;
+use shown::printing::print_next;
+use shown::printing::print_number;
+use shown::sample::band;
 use table::LIMIT;
 use table::judge::first_above;
 use table::judge::well_sized;
 use table::number::Unknown;
 use table::rows::filled;
-ghost use mathlib.Core.Path.{_≡_};
 ghost use Prim.Native.Nat.{_≤_};
 ghost use Rattle.table.specs.Model.{limit};
 ghost use Rattle.counts.specs.Work.{Pairable};
-
-fn print(text: &[u8]) {
-    io::write_all(STDOUT_FILENO, text);
-}
-
-fn print_number(number: u8) {
-    io::print_decimal(STDOUT_FILENO, number as u64);
-}
-
-// A comma before every number but the first.
-fn print_comma(place: usize) {
-    if 0 < place {
-        print(b",");
-    }
-}
 
 fn print_partners(partners: [Unknown; LIMIT], n: usize)
     requires { ⌜ n ≤ limit ⌝ }
 {
     let mut e = 0;
     while e < n {
-        print_comma(e);
         let partner = partners[e];
-        print_number(partner.0);
+        print_next(b",", e == 0, partner.0);
         e += 1;
     }
 }
@@ -65,7 +51,7 @@ fn print_blocks(placing: Placing, n: usize)
             print_split(block[i - 1], block[i]);
         }
         let equation = order[i];
-        print_number(equation.0);
+        print_number(equation.0 as u64);
         i += 1;
     }
 }
@@ -87,12 +73,6 @@ fn print_answer(n: usize, table: &[[u8; LIMIT]; LIMIT])
     print_blocks(placing, n);
 }
 
-fn wide(x: u8) -> usize
-    ensures { λ r. ⌜ r ≡ x ⌝ }
-{
-    x as usize
-}
-
 // A model of n equations and n unknowns, from its lent table.
 fn show(name: &[u8], n: usize, bytes: &[u8]) {
     print(name);
@@ -100,26 +80,12 @@ fn show(name: &[u8], n: usize, bytes: &[u8]) {
         if first_above(bytes) == bytes.len() {
             let table = filled(n, n, bytes);
             let left = left_over(&table, n, n);
-            if wide(left.rank) == n {
+            if left.rank as usize == n {
                 print_answer(n, &table);
             }
         }
     }
     print(b"\n");
-}
-
-// Equation i has its own unknown and the next one's; the last has the first one's besides if asked, and then all are one block.
-fn chain(last: u8) -> [u8; 1024] {
-    let mut table = [0u8; 1024];
-    let mut i = 0;
-    while i < 31 {
-        table[33 * i] = 1;
-        table[33 * i + 1] = 1;
-        i += 1;
-    }
-    table[992] = last;
-    table[1023] = 1;
-    table
 }
 
 fn main() {
@@ -131,155 +97,36 @@ fn main() {
     show(
         b"002 6x6",
         6,
-        &[
-            0,
-            0,
-            1,
-            1,
-            0,
-            1,
-            1,
-            1,
-            0,
-            0,
-            1,
-            1,
-            0,
-            1,
-            1,
-            0,
-            0,
-            0,
-            1,
-            0,
-            1,
-            0,
-            1,
-            0,
-            0,
-            1,
-            0,
-            0,
-            0,
-            1,
-            0,
-            0,
-            1,
-            0,
-            0,
-            1,
-        ],
+        b"\x00\x00\x01\x01\x00\x01\
+          \x01\x01\x00\x00\x01\x01\
+          \x00\x01\x01\x00\x00\x00\
+          \x01\x00\x01\x00\x01\x00\
+          \x00\x01\x00\x00\x00\x01\
+          \x00\x00\x01\x00\x00\x01",
     );
     show(
         b"002 7x7 lower triangular",
         7,
-        &[
-            0,
-            0,
-            1,
-            0,
-            0,
-            1,
-            0,
-            1,
-            1,
-            0,
-            0,
-            1,
-            1,
-            0,
-            0,
-            0,
-            0,
-            1,
-            1,
-            1,
-            0,
-            0,
-            1,
-            0,
-            0,
-            0,
-            0,
-            0,
-            0,
-            0,
-            1,
-            0,
-            1,
-            0,
-            0,
-            0,
-            1,
-            0,
-            0,
-            0,
-            1,
-            0,
-            0,
-            1,
-            1,
-            0,
-            0,
-            0,
-            1,
-        ],
+        b"\x00\x00\x01\x00\x00\x01\x00\
+          \x01\x01\x00\x00\x01\x01\x00\
+          \x00\x00\x00\x01\x01\x01\x00\
+          \x00\x01\x00\x00\x00\x00\x00\
+          \x00\x00\x01\x00\x01\x00\x00\
+          \x00\x01\x00\x00\x00\x01\x00\
+          \x00\x01\x01\x00\x00\x00\x01",
     );
     show(
         b"002 7x7 with a loop",
         7,
-        &[
-            0,
-            0,
-            1,
-            1,
-            0,
-            1,
-            0,
-            1,
-            1,
-            0,
-            0,
-            1,
-            1,
-            0,
-            0,
-            0,
-            0,
-            1,
-            1,
-            0,
-            0,
-            0,
-            1,
-            0,
-            0,
-            0,
-            0,
-            0,
-            1,
-            0,
-            1,
-            0,
-            1,
-            0,
-            0,
-            0,
-            1,
-            0,
-            0,
-            0,
-            1,
-            0,
-            0,
-            0,
-            1,
-            0,
-            0,
-            0,
-            1,
-        ],
+        b"\x00\x00\x01\x01\x00\x01\x00\
+          \x01\x01\x00\x00\x01\x01\x00\
+          \x00\x00\x00\x01\x01\x00\x00\
+          \x00\x01\x00\x00\x00\x00\x00\
+          \x01\x00\x01\x00\x01\x00\x00\
+          \x00\x01\x00\x00\x00\x01\x00\
+          \x00\x00\x01\x00\x00\x00\x01",
     );
-    show(b"chain 32x32", 32, &chain(0));
-    show(b"ring 32x32", 32, &chain(1));
+    // each equation has its own unknown and the next one's; where the last has the first one's too, all are one block
+    show(b"chain 32x32", LIMIT, &band(1, 0, 0, 1));
+    show(b"ring 32x32", LIMIT, &band(1, 0, 1, 1));
 }

@@ -1,81 +1,56 @@
 // Prints rank, surplus and unfixed for document 01's singular models and for tables with empty rows and columns, with more equations than
 // unknowns and the other way round, and of full size. `stdout` has what must come out, from document 01 and an independent computation.
-use libc::STDOUT_FILENO;
 use pairing::left::left_over;
+use shown::printing::print;
+use shown::printing::print_figure;
+use shown::printing::print_next;
+use shown::sample::band;
+use table::CELLS;
 use table::LIMIT;
 use table::judge::well_sized;
 use table::rows::filled;
 ghost use Prim.Native.Nat.{_≤_};
 ghost use Rattle.table.specs.Model.{limit};
 
-fn print(text: &[u8]) {
-    io::write_all(STDOUT_FILENO, text);
-}
-
-fn print_number(number: usize) {
-    io::print_decimal(STDOUT_FILENO, number as u64);
-}
-
-// A comma before every number but the first.
-fn print_next(first: bool, number: usize) {
-    if !first {
-        print(b",");
-    }
-    print_number(number);
-}
-
-fn print_none(none: bool) {
-    if none {
-        print(b"none");
-    }
-}
-
 // The numbers of what is marked, by commas, or none.
-fn print_marked(n: usize, marks: &[bool; LIMIT])
+fn print_marked(label: &[u8], n: usize, marks: &[bool; LIMIT])
     requires { ⌜ n ≤ limit ⌝ }
 {
+    print(label);
     let mut first = true;
     let mut i = 0;
     while i < n {
         if marks[i] {
-            print_next(first, i + 1);
+            print_next(b",", first, (i + 1) as u8);
             first = false;
         }
         i += 1;
     }
-    print_none(first);
+    if first {
+        print(b"none");
+    }
+}
+
+fn print_left(table: &[[u8; LIMIT]; LIMIT], equations: usize, unknowns: usize)
+    requires { ⌜ (equations ≤ limit) × (unknowns ≤ limit) ⌝ }
+{
+    let left = left_over(table, equations, unknowns);
+    let surplus = left.surplus;
+    let unfixed = left.unfixed;
+    print_figure(b" rank=", left.rank as u64);
+    print_marked(b" surplus=", equations, &surplus);
+    print_marked(b" unfixed=", unknowns, &unfixed);
 }
 
 fn show(name: &[u8], equations: usize, unknowns: usize, bytes: &[u8]) {
     print(name);
-    if !well_sized(equations, unknowns, bytes) {
-        print(b" size\n");
-        return;
+    if well_sized(equations, unknowns, bytes) {
+        let table = filled(equations, unknowns, bytes);
+        print_left(&table, equations, unknowns);
+    } else {
+        print(b" size");
     }
-    let table = filled(equations, unknowns, bytes);
-    let left = left_over(&table, equations, unknowns);
-    let surplus = left.surplus;
-    let unfixed = left.unfixed;
-    print(b" rank=");
-    print_number(left.rank as usize);
-    print(b" surplus=");
-    print_marked(equations, &surplus);
-    print(b" unfixed=");
-    print_marked(unknowns, &unfixed);
     print(b"\n");
-}
-
-// Equation i has unknowns i and i + 1, and the last one unknown 32 alone: solvable. Without its last entry it is singular.
-fn ladder(last: u8) -> [u8; 1024] {
-    let mut table = [0u8; 1024];
-    let mut i = 0;
-    while i < 31 {
-        table[33 * i] = 1;
-        table[33 * i + 1] = 2;
-        i += 1;
-    }
-    table[1023] = last;
-    table
 }
 
 fn main() {
@@ -98,9 +73,15 @@ fn main() {
         4,
         &[1, 1, 0, 0, 1, 0, 0, 0, 0, 1, 0, 0, 0, 0, 1, 1],
     );
-    show(b"ladder 32x32", 32, 32, &ladder(1));
-    show(b"ladder without its end 32x32", 32, 32, &ladder(0));
-    show(b"full 32x32", 32, 32, &[4; 1024]);
+    // each equation has its own unknown and the next one: solvable, and singular without the last one's own
+    show(b"ladder 32x32", LIMIT, LIMIT, &band(2, 0, 0, 1));
+    show(
+        b"ladder without its end 32x32",
+        LIMIT,
+        LIMIT,
+        &band(2, 0, 0, 0),
+    );
+    show(b"full 32x32", LIMIT, LIMIT, &[4; CELLS]);
     show(b"short table", 2, 2, &[1, 1, 1]);
-    show(b"too many", 33, 1, &[1; 33]);
+    show(b"too many", LIMIT + 1, 1, &[1; LIMIT + 1]);
 }
