@@ -12,8 +12,8 @@ pub enum Input {
     Failed,
 }
 
-// Reads until the buffer is full, the input ends or a read fails. A read that has nothing to give yet on an input that does not wait has failed, and so
-// has one that a signal interrupted: the program sets no handler, so the system takes such a read up again by itself.
+// Reads until the buffer is full, the input ends or a read fails. On an input that does not wait, a read that has nothing to give yet has failed. One that
+// a signal interrupts would have failed too, but the program handles no signal, so the system takes such a read up again by itself.
 pub fn fill(descriptor: i32, buffer: &mut [u8]) -> Input
     ensures { λ r. ⌜ Possible (length (now (buffer .entry))) r ⌝ }
 {
