@@ -2,10 +2,11 @@
 //!
 //! The archive is `target/staticlib/libscreen.a` of the repository two levels up. Where it is missing, or older
 //! than the proved sources in `crates/`, `rt staticlib screen` makes it: that proves the library first. The
-//! environment variable `MUDORDER_ARCHIVE` names another archive to be taken as it is, for a machine without `rt`.
+//! environment variable `MUDORDER_ARCHIVE` names an archive to be taken as it is: the one that the gate has just made,
+//! or one made elsewhere, for a machine without `rt`.
 
 use std::env;
-use std::fs;
+use std::fs::{self, File};
 use std::io;
 use std::path::{Path, PathBuf};
 use std::process::{Command, ExitCode};
@@ -37,13 +38,15 @@ fn find_or_make() -> Result<PathBuf, String> {
     }
 }
 
-/// The archive that the environment names.
+/// The archive that the environment names; no other will do.
 fn given(path: PathBuf) -> Result<PathBuf, String> {
     println!("cargo::rerun-if-changed={}", path.display());
-    if path.is_file() {
-        Ok(path)
-    } else {
+    if !path.is_absolute() {
+        Err(format!("MUDORDER_ARCHIVE names {}, which is no absolute path", path.display()))
+    } else if !path.is_file() {
         Err(format!("MUDORDER_ARCHIVE names {}, and there is no such file", path.display()))
+    } else {
+        Ok(path)
     }
 }
 
@@ -64,12 +67,19 @@ fn of_repository(root: &Path) -> Result<PathBuf, String> {
     let sources = sources.map_err(|error| format!("cannot read {}: {error}", crates.display()))?;
     match fs::metadata(&archive).and_then(|data| data.modified()) {
         Ok(made) if made >= sources => Ok(archive),
-        _ => make(root).map(|()| archive),
+        _ => make(root).and_then(|began| date(&archive, began)).map(|()| archive),
     }
 }
 
-/// Runs `rt staticlib screen` in the repository's root.
-fn make(root: &Path) -> Result<(), String> {
+/// Gives the archive the time at which its making began, so that a source saved meanwhile is newer.
+fn date(archive: &Path, began: SystemTime) -> Result<(), String> {
+    let dated = File::options().write(true).open(archive).and_then(|file| file.set_modified(began));
+    dated.map_err(|error| format!("cannot date {}: {error}", archive.display()))
+}
+
+/// Runs `rt staticlib screen` in the repository's root and hands back when it began.
+fn make(root: &Path) -> Result<SystemTime, String> {
+    let began = SystemTime::now();
     let output = Command::new("rt").args(["staticlib", "screen"]).current_dir(root).output();
     match output {
         Err(error) if error.kind() == io::ErrorKind::NotFound => Err(format!(
@@ -85,7 +95,7 @@ fn make(root: &Path) -> Result<(), String> {
             String::from_utf8_lossy(&output.stdout),
             String::from_utf8_lossy(&output.stderr),
         )),
-        Ok(_) => Ok(()),
+        Ok(_) => Ok(began),
     }
 }
 
