@@ -1,4 +1,5 @@
--- Demand 3, of every reply: what is called solvable, the rank that is shown, and what the surplus list says of the model.
+-- Demand 3, of every reply: what is called solvable, the rank that is shown, and what the surplus list says of the model. And of demand 1: a code that is no
+-- verdict leaves the buffer as it was.
 use mathlib.Core.Path.{_≡_}
 use mathlib.Core.Bool.{_&&_}
 use mathlib.Core.List.{List, []}
@@ -72,3 +73,9 @@ module _ {E U : ℕ} {t before : List ℕ} {number : ℕ} {after : List ℕ} (r 
   code-zero = test (eqb (refusal E U t (length before)) 0)
       (λ w. let z = eqb-true (refusal E U t (length before)) 0 w in (λ c. (z, called-solvable z .0 c), λ (_, s). called-solvable z .1 s))
       (λ w. let n = eqb-false (refusal E U t (length before)) 0 w in (λ c. let l = called-refused n .0 in absurd (omega arith), λ (z, _). absurd (n z)))
+
+  -- a reply that calls the model neither solvable nor singular has changed no byte
+  pub refused-leaves : (codeIn number ≡ 0 → ⊥) → (codeIn number ≡ 10 → ⊥) → after ≡ before
+  refused-leaves a b = test (eqb (refusal E U t (length before)) 0)
+      (λ w. either (called (eqb-true (refusal E U t (length before)) 0 w)) (λ (c, _). absurd (a c)) (λ (c, _). absurd (b c)))
+      (λ w. r .refused (eqb-false (refusal E U t (length before)) 0 w) .holds)
