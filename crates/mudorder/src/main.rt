@@ -1,11 +1,10 @@
 // Reads a card from standard input and writes its printed result to standard output; nothing else. Where standard input cannot be read to its end there
-// is no result: standard output stays empty, and standard error says so. Where standard output does not take the whole result, standard error says so.
+// is no result: standard output stays empty, and standard error says why. Where standard output does not take the whole result, standard error says so.
 // A program of Rattle cannot choose its exit status: it is 0 in these cases too. A pipe that nobody reads any more ends the program by its signal.
 mod input;
 
 use crate::input::Input;
 use crate::input::fill;
-use libc::STDERR_FILENO;
 use libc::STDIN_FILENO;
 use libc::STDOUT_FILENO;
 use report::INPUT_LIMIT;
@@ -30,18 +29,12 @@ fn print(text: &[u8], count: usize)
     requires { ⌜ Counts count (now text) ⌝ }
 {
     if !io::write_all(STDOUT_FILENO, &text[..count]) {
-        io::write_all(
-            STDERR_FILENO,
-            b"mudorder: standard output did not take the whole result\n",
-        );
+        os::fail(b"mudorder: standard output did not take the whole result");
     }
 }
 
 fn say_unread() {
-    io::write_all(
-        STDERR_FILENO,
-        b"mudorder: standard input could not be read to its end, so there is no result\n",
-    );
+    os::fail(b"mudorder: no result, since standard input could not be read to its end");
 }
 
 // Answers what stands in standard input, with a buffer for the card that is longer than the limit, and one for the text.

@@ -25,8 +25,8 @@ use std::sync::LazyLock;
 use std::thread::sleep;
 use std::time::Duration;
 
-const UNREAD: &str = "mudorder: standard input could not be read to its end, so there is no result\n";
-const UNTAKEN: &str = "mudorder: standard output did not take the whole result\n";
+const UNREAD: &str = "mudorder: no result, since standard input could not be read to its end";
+const UNTAKEN: &str = "mudorder: standard output did not take the whole result";
 const SIGPIPE: i32 = 13;
 
 /// The program to try, found or made once for all tests.
@@ -114,24 +114,24 @@ fn closed(stream: &str) -> Command {
 #[test]
 fn what_cannot_be_read_to_its_end_has_no_result() {
     let mut tried = 0;
-    let mut check = |what: &str, child: Child| {
+    let mut check = |what: &str, why: &str, child: Child| {
         let Output { status, stdout, stderr } = end(child);
         assert_eq!(String::from_utf8_lossy(&stdout), "", "standard output, {what}");
-        assert_eq!(String::from_utf8_lossy(&stderr), UNREAD, "standard error, {what}");
+        assert_eq!(String::from_utf8_lossy(&stderr), format!("{UNREAD}: {why}\n"), "standard error, {what}");
         assert!(status.success(), "{status}, {what}");
         tried += 1;
     };
 
     let folder = File::open("/").expect("the root can be opened");
-    check("a directory", start(&mut Command::new(&*PROGRAM), folder, Stdio::piped()));
-    check("closed", start(&mut closed("<"), Stdio::null(), Stdio::piped()));
+    check("a directory", "Is a directory", start(&mut Command::new(&*PROGRAM), folder, Stdio::piped()));
+    check("closed", "Bad file descriptor", start(&mut closed("<"), Stdio::null(), Stdio::piped()));
     // An input that does not wait, and so much of it is there already. All of A's card is itself a good card.
     for length in [0, 1, CARD_A.len() / 2, CARD_A.len()] {
         let (mut far, near) = UnixStream::pair().expect("two ends");
         near.set_nonblocking(true).expect("it need not wait");
         far.write_all(&CARD_A.as_bytes()[..length]).expect("there is room for a card");
         let child = start(&mut Command::new(&*PROGRAM), OwnedFd::from(near), Stdio::piped());
-        check(&format!("{length} bytes and nothing more yet"), child);
+        check(&format!("{length} bytes and nothing more yet"), "Resource temporarily unavailable", child);
     }
     say(&format!("the program mudorder: {tried} inputs that cannot be read to their end, none judged"));
 }
@@ -144,13 +144,13 @@ fn a_result_that_is_not_taken_is_told() {
         OwnedFd::from(near)
     };
     let full = File::options().write(true).open("/dev/full").expect("a device that is always full");
-    for (what, child) in [
-        ("no room", start(&mut Command::new(&*PROGRAM), card(), full)),
-        ("closed", start(&mut closed(">"), card(), Stdio::piped())),
+    for (why, child) in [
+        ("No space left on device", start(&mut Command::new(&*PROGRAM), card(), full)),
+        ("Bad file descriptor", start(&mut closed(">"), card(), Stdio::piped())),
     ] {
         let Output { status, stderr, .. } = end(child);
-        assert_eq!(String::from_utf8_lossy(&stderr), UNTAKEN, "standard error, {what}");
-        assert!(status.success(), "{status}, {what}");
+        assert_eq!(String::from_utf8_lossy(&stderr), format!("{UNTAKEN}: {why}\n"));
+        assert!(status.success(), "{status}, {why}");
     }
     let (far, near) = UnixStream::pair().expect("two ends");
     far.shutdown(Shutdown::Both).expect("nobody reads there");
