@@ -14,7 +14,7 @@ use Rattle.laws.proofs.Tests.{and-left, and-right, and-both}
 use Rattle.pairing.specs.Pairing.{Rel, turn, Pairing, size, Rank, Surplus, Unfixed, Listed}
 use Rattle.pairing.specs.Members.{members}
 use Rattle.pairing.proofs.Sizes.{pairing-turned}
-use Rattle.pairing.specs.Left.{Certificate}
+use Rattle.pairing.specs.Certificate.{Certificate}
 use Rattle.pairing.proofs.Certify.{overs, certified}
 use Rattle.pairing.proofs.Certificate.{largest, left-over}
 use Rattle.pairing.proofs.Turn.{left-over-unknown}

@@ -13,7 +13,8 @@ use Rattle.table.specs.Model.{limit, occursAt, orderAt}
 use Rattle.table.specs.declared.number.Equation.{Equation}
 use Rattle.table.specs.declared.number.Unknown.{Unknown}
 use Rattle.pairing.specs.Pairing.{Rel}
-use Rattle.pairing.specs.First.{Partners, First, partnerOf}
+use Rattle.pairing.specs.First.{Partners, First}
+use Rattle.pairing.specs.Handed.{partnerOf}
 use Rattle.counts.specs.Fit.{Least, leading, indexOf, freedomOf}
 use Rattle.counts.specs.Work.{leadingAt, leadingRows}
 use Rattle.laws.specs.Tab.{numberAt}

@@ -11,7 +11,7 @@ use Rattle.laws.specs.Marks.{marked}
 use Rattle.laws.proofs.Tests.{clash, and-left, and-right, and-both}
 use Rattle.table.specs.Model.{occursAt, orderAt, rowsOf, Bounded}
 use Rattle.pairing.specs.Pairing.{Rel, Rank}
-use Rattle.pairing.specs.Left.{LeftIs}
+use Rattle.pairing.specs.Handed.{LeftIs}
 use Rattle.pairing.specs.Members.{members}
 use Rattle.pairing.proofs.Sizes.{size-full}
 use Rattle.pairing.proofs.Lists.{members-listed}

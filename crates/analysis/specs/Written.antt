@@ -5,7 +5,7 @@ use Prim.Native.Nat.{ℕ, _-_, _≤_}
 use Rattle.table.specs.Model.{limit, occursAt, orderAt}
 use Rattle.table.specs.declared.number.Equation.{Equation}
 use Rattle.table.specs.declared.number.Unknown.{Unknown}
-use Rattle.pairing.specs.First.{FirstIs}
+use Rattle.pairing.specs.Handed.{FirstIs}
 use Rattle.counts.specs.Fit.{Least, indexOf, freedomOf}
 use Rattle.counts.specs.Work.{leadingRows}
 use Rattle.laws.specs.Tab.{numberAt}

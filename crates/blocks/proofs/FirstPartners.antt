@@ -5,7 +5,7 @@ use mathlib.Core.List.{List}
 use Rattle.table.specs.Model.{limit}
 use Rattle.table.specs.declared.number.Unknown.{Unknown}
 use Rattle.pairing.specs.Pairing.{Rel}
-use Rattle.pairing.specs.First.{FirstIs}
+use Rattle.pairing.specs.Handed.{FirstIs}
 use Rattle.blocks.specs.Handed.{Partnered}
 
 pub first-partnered : {m : ℕ} {leading : Rel} {p : List Unknown} → m ≤ limit → FirstIs m leading p → Partnered m p

@@ -10,7 +10,7 @@ use Rattle.table.specs.Number.{equationAt}
 use Rattle.table.specs.declared.number.Equation.{Equation}
 use Rattle.table.specs.declared.number.Unknown.{Unknown}
 use Rattle.pairing.specs.Pairing.{Rel}
-use Rattle.pairing.specs.First.{partnerOf}
+use Rattle.pairing.specs.Handed.{partnerOf}
 use Rattle.blocks.specs.Blocks.{Reaches, Placed}
 
 -- the place of the partner of the equation at place e

@@ -15,7 +15,7 @@ use Rattle.laws.proofs.Sum.{sum-same, sum-add}
 use Rattle.laws.proofs.Counts.{count-not}
 use Rattle.laws.proofs.Inject.{count-inject, count-misses}
 use Rattle.pairing.specs.Pairing.{Rel, Pairing, size, Largest, LeftOver, Surplus}
-use Rattle.pairing.specs.Left.{Certificate}
+use Rattle.pairing.specs.Certificate.{Certificate}
 use Rattle.pairing.proofs.Along.{reached-surplus}
 use Rattle.pairing.proofs.Sizes.{size-rows, has-pair, no-pair}
 

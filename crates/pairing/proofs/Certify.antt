@@ -11,7 +11,7 @@ use Rattle.laws.proofs.Search.{any-here, any-where}
 use Rattle.laws.proofs.Closure.{closure, closure-only, closure-start, closure-within, closure-closed}
 use Rattle.pairing.specs.Pairing.{Rel, Pairing, Largest, LeftOver}
 use Rattle.pairing.specs.Holders.{Reach, start, step}
-use Rattle.pairing.specs.Left.{Certificate}
+use Rattle.pairing.specs.Certificate.{Certificate}
 use Rattle.pairing.proofs.Sizes.{has-pair}
 use Rattle.pairing.proofs.Along.{reached-held}
 

@@ -15,7 +15,8 @@ use Rattle.laws.specs.Tab.{pick}
 use Rattle.laws.proofs.Tests.{test, either, given, clash, true≢false, and-left, and-right, and-both, or-cases}
 use Rattle.table.specs.declared.number.Unknown.{Unknown}
 use Rattle.pairing.specs.Pairing.{Rel, Pairing, Full}
-use Rattle.pairing.specs.First.{Partners, First, partnerOf, FirstIs}
+use Rattle.pairing.specs.First.{Partners, First}
+use Rattle.pairing.specs.Handed.{partnerOf, FirstIs}
 use Rattle.pairing.proofs.Sizes.{has-pair}
 
 module _ {m n : ℕ} {edge : Rel} {p q : ℕ → ℕ} (a : First m n edge p) (b : First m n edge q) where

@@ -17,7 +17,8 @@ use Rattle.laws.proofs.Sum.{sum-same}
 use Rattle.table.specs.declared.number.Equation.{Equation}
 use Rattle.pairing.specs.Pairing.{Rel, turn, Pairing, size}
 use Rattle.pairing.specs.Holders.{holder, held, Reach, start, step}
-use Rattle.pairing.specs.Left.{Certificate, LeftIs}
+use Rattle.pairing.specs.Certificate.{Certificate}
+use Rattle.pairing.specs.Handed.{LeftIs}
 use Rattle.pairing.proofs.Sizes.{size-turned, rank-one}
 use Rattle.pairing.proofs.Certificate.{largest, left-over}
 use Rattle.pairing.proofs.Hall.{reach-within}

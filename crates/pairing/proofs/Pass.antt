@@ -14,7 +14,7 @@ use Rattle.table.specs.Model.{limit}
 use Rattle.table.specs.declared.number.Equation.{Equation}
 use Rattle.pairing.specs.Pairing.{Rel, Pairing, LeftOver}
 use Rattle.pairing.specs.Holders.{holder, held, HoldsSome, Reach, start, step, Found, Nothing, Asking}
-use Rattle.pairing.specs.Left.{Certificate}
+use Rattle.pairing.specs.Certificate.{Certificate}
 
 pub record Pass (m n : ℕ) (edge : Rel) (h : List Equation) (a : List Bool) (i : ℕ) : Type 0 where
   pub ok : Pairing m n edge (held h)

@@ -14,7 +14,7 @@ use Rattle.table.specs.declared.number.Equation.{Equation}
 use Rattle.table.specs.declared.number.Unknown.{Unknown}
 use Rattle.pairing.specs.Pairing.{Rel, Full}
 use Rattle.pairing.specs.Holders.{held}
-use Rattle.pairing.specs.First.{partnerOf, FirstIs}
+use Rattle.pairing.specs.Handed.{partnerOf, FirstIs}
 use Rattle.pairing.specs.Choosing.{HeldBy, Keeps, Tried, Settled}
 use Rattle.pairing.proofs.Choice.{full-chosen, full-partners, partners-of, lowest}
 use Rattle.pairing.proofs.Trying.{owns}

@@ -5,7 +5,7 @@ use mathlib.Core.Logic.{_↔_}
 use Prim.Native.Nat.{ℕ, _<_}
 use Rattle.pairing.specs.Pairing.{Rel, turn, Rank, Surplus, Unfixed}
 use Rattle.pairing.proofs.Sizes.{size-turned, largest-turned}
-use Rattle.pairing.specs.Left.{Certificate}
+use Rattle.pairing.specs.Certificate.{Certificate}
 use Rattle.pairing.proofs.Certificate.{left-over}
 
 pub rank-turned : {m n k : ℕ} {edge : Rel} → Rank m n edge k → Rank n m (turn edge) k

@@ -1,10 +1,7 @@
 -- Document 01, "Counts, tops, partners": equation 1 gets the lowest-numbered unknown with which all the others can still be paired, then equation 2 likewise, and so on.
 use mathlib.Core.Path.{_≡_}
 use mathlib.Core.Bool.{true}
-use mathlib.Core.List.{List}
-use Prim.Native.Nat.{ℕ, _-_, _<_, _≤_}
-use Rattle.table.specs.Number.{unknownAt}
-use Rattle.table.specs.declared.number.Unknown.{Unknown}
+use Prim.Native.Nat.{ℕ, _<_, _≤_}
 use Rattle.pairing.specs.Pairing.{Rel}
 
 -- each equation has an unknown of its own that occurs in it: a pairing of all equations, as a function
@@ -17,13 +14,3 @@ pub record Partners (m n : ℕ) (edge : Rel) (p : ℕ → ℕ) : Type 0 where
 pub record First (m n : ℕ) (edge : Rel) (p : ℕ → ℕ) : Type 0 where
   pub ok : Partners m n edge p
   pub low : (q : ℕ → ℕ) → Partners m n edge q → (e : ℕ) → e < m → ((i : ℕ) → i < e → q i ≡ p i) → p e ≤ q e
-
--- the number of equation e's partner, or 0
-abbrev pub partnerOf : List Unknown → ℕ → ℕ
-partnerOf l e = unknownAt l e
-
--- the partners of n equations, numbered from 1: those of the first full pairing, and 0 beyond the last equation
-pub record FirstIs (n : ℕ) (edge : Rel) (l : List Unknown) : Type 0 where
-  pub first : First n n edge (λ e. partnerOf l e - 1)
-  pub numbered : (e : ℕ) → e < n → 1 ≤ partnerOf l e
-  pub beyond : (e : ℕ) → n ≤ e → partnerOf l e ≡ 0

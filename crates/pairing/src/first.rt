@@ -12,7 +12,7 @@ ghost use Rattle.laws.specs.Tab.{tab};
 ghost use Rattle.table.specs.Model.{limit, Numbered, occursAt};
 ghost use Rattle.pairing.specs.Pairing.{Full};
 ghost use Rattle.pairing.specs.Holders.{held};
-ghost use Rattle.pairing.specs.First.{FirstIs};
+ghost use Rattle.pairing.specs.Handed.{FirstIs};
 ghost use Rattle.pairing.specs.Choosing.{HeldBy, Tried, Settled};
 
 struct Attempt {

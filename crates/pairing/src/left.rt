@@ -13,7 +13,8 @@ ghost use Rattle.laws.specs.Count.{count};
 ghost use Rattle.laws.specs.Marks.{marked};
 ghost use Rattle.table.specs.Model.{limit, occursAt};
 ghost use Rattle.pairing.specs.Holders.{holder, held};
-ghost use Rattle.pairing.specs.Left.{Certificate, LeftIs};
+ghost use Rattle.pairing.specs.Certificate.{Certificate};
+ghost use Rattle.pairing.specs.Handed.{LeftIs};
 
 struct Pairs {
     holders: [Equation; LIMIT],
