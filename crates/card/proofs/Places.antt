@@ -1,5 +1,6 @@
--- Every refusal of the reader has a number of 11 to 16 and a place of at most the input's length, and of at most 14,847 however long the input is:
--- what is left of the input stands behind a place, and the lines before it belong to different pairs, so they are no longer than all lines of the largest table.
+-- Every refusal of the reader has a number of 11 to 16, and a place of at most the input's length and of at most 14,847 however long the input is:
+-- what is left of the input stands behind the place, and the lines before it belong to different pairs, so they are no longer than all lines
+-- of the largest table.
 use mathlib.Core.Path.{_≡_, refl, ap, sym, _∙_}
 use mathlib.Core.Bool.{_&&_}
 use mathlib.Core.List.{List, [], _∷_, _++_}

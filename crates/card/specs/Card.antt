@@ -1,5 +1,5 @@
 -- Document 01, "The card": what the reader, the name question and the writer answer.
--- The cases of what the code declares, and its records (Value and Entry: see Entry.antt):
+-- Types that the code declares, and their cases or fields (Value and Entry: see Entry.antt):
 --   Rig      the rig line. `Unnamed m`: refused with m; `Named end`: good, and its LF stands at `end`
 --   Count    a count line. `Uncounted m`: refused with m; `Counts n next`: it says n, and the next line starts at `next`
 --   Turn     a line after the unknowns line. `Refused m`: refused with m; `Next pair code next`: an occurs line with its pair and code;

@@ -1,7 +1,7 @@
 -- Document 01, "The card": what one line says.
--- The cases of what the code declares:
---   Value  `Other`: the text has another shape; `Says n`: it is the number n
---   Entry  `Shape`: the line has another shape; `Occurs e u k`: it is `occurs=e,u,k`; `End n`: it is `end=n`
+-- Types that the code declares, and their cases:
+--   Value  of a text due to be one number, or a line due to be a key and one number. `Other`: another shape; `Says n`: the number is n
+--   Entry  of a line after the unknowns line. `Shape`: another shape; `Occurs e u k`: `occurs=e,u,k`; `End n`: `end=n`
 use mathlib.Core.Bool.{Bool, true, _&&_, _||_}
 use mathlib.Core.List.{List, [], _∷_}
 use Prim.Native.Nat.{ℕ, _+_}

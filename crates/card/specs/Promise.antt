@@ -29,7 +29,7 @@ pub record ReadDone (s before : List ℕ) (r : Reading) (after : List ℕ) : Typ
   pub answer : r ≡ readOf (length before) (judged s)
   pub bytes : after ≡ tableOf before (judged s)
 
--- the name question: the part's bytes, and where it lies in the card that was handed over
+-- the name question: the part's bytes, and where it lies in the card that was handed over (`ptr`: a block of memory and an offset in it)
 pub record NamePart (card part : RefT (List ℕ)) : Type 0 where
   pub bytes : part .now ≡ nameOf (judged (card .now))
   pub block : part .ptr .0 ≡ card .ptr .0

@@ -1,5 +1,5 @@
 -- Document 01, "The card": bytes, keys, numbers and lines.
--- The cases of what the code declares:
+-- A type that the code declares, and its cases:
 --   Number  `Missing`: no digit stands in front; `Is value took`: a number, and how many bytes it takes
 use mathlib.Core.Bool.{Bool, true, false, _&&_}
 use mathlib.Core.List.{List, [], _∷_}
