@@ -27,12 +27,12 @@ pub unended : {A : Type 0} {e : ℕ} → Unended ≡ Ends e → A
 unended p = let z : _≡_ {A = ℕ} 0 1 = cc in absurd (omega arith)
 
 -- a line that ends at e and starts at `at`: the first of a text x
-record First (x : List ℕ) (at e : ℕ) : Type 0 where
+record FirstEnd (x : List ℕ) (at e : ℕ) : Type 0 where
   from : at ≤ e
   room : e - at < length x
   is : linesOf x ≡ line (take (e - at) x) (linesOf (drop (e - at + 1) x))
 
-first : (x : List ℕ) (at e : ℕ) → endOf at (linesOf x) ≡ Ends e → First x at e
+first : (x : List ℕ) (at e : ℕ) → endOf at (linesOf x) ≡ Ends e → FirstEnd x at e
 first [] at e p = unended p
 first (b ∷ x) at e p =
     test (eqb b LF)
@@ -50,13 +50,13 @@ first (b ∷ x) at e p =
     record { from = omega arith; room = omega (arith, k .room); is = rw (f, d, g, k .is) })
 
 -- the same in a card s
-pub record Found (s : List ℕ) (at e : ℕ) : Type 0 where
+pub record LineFound (s : List ℕ) (at e : ℕ) : Type 0 where
   pub from : at ≤ e
   pub room : e < length s
   pub is : linesOf (drop at s) ≡ line (take (e - at) (drop at s)) (linesOf (drop (e + 1) s))
   pub long : length (take (e - at) (drop at s)) ≡ e - at
 
-pub found : (s : List ℕ) (at e : ℕ) → endOf at (linesOf (drop at s)) ≡ Ends e → Found s at e
+pub found : (s : List ℕ) (at e : ℕ) → endOf at (linesOf (drop at s)) ≡ Ends e → LineFound s at e
 found s at e p =
     let k = first (drop at s) at e p in
     let f : at ≤ e = k .from in
@@ -89,7 +89,7 @@ module _ (at : ℕ) where
 
 -- ---- a line that is there
 
-module _ {s : List ℕ} {at e : ℕ} (k : Found s at e) where
+module _ {s : List ℕ} {at e : ℕ} (k : LineFound s at e) where
   next-place : at + length (take (e - at) (drop at s)) + 1 ≡ e + 1
   next-place = let f : at ≤ e = k .from in rw (k .long) (omega arith)
 
@@ -104,7 +104,7 @@ module _ {s : List ℕ} {at e : ℕ} (k : Found s at e) where
 
 -- ---- the rig line
 
-module _ (s : List ℕ) {e : ℕ} (k : Found s 0 e) where
+module _ (s : List ℕ) {e : ℕ} (k : LineFound s 0 e) where
   pub rig-line : linesOf s ≡ line (take e s) (linesOf (drop (e + 1) s))
   rig-line = let z : e - 0 ≡ e = omega arith in rw z at (k .is)
 
@@ -167,7 +167,7 @@ uncounted p = let z : _≡_ {A = ℕ} 0 1 = cc in absurd (omega arith)
 pub countable : (s key : List ℕ) (at n next : ℕ) → countOf key at (linesOf (drop at s)) ≡ Counts n next → Countable s at n next
 countable s key at n next p = go (endOf at (linesOf (drop at s))) refl
   where
-    said : (e : ℕ) → Found s at e → (v : Value) → valueOf key (take (e - at) (drop at s)) ≡ v → Countable s at n next
+    said : (e : ℕ) → LineFound s at e → (v : Value) → valueOf key (take (e - at) (drop at s)) ≡ v → Countable s at n next
     said e k Other q = uncounted (ap (countSaid (e + 1)) (sym q) ∙ count-found k key ∙ p)
     said e k (Says m) q =
         let f : countSaid (e + 1) (Says m) ≡ Counts n next = ap (countSaid (e + 1)) (sym q) ∙ count-found k key ∙ p in

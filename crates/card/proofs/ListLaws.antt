@@ -25,7 +25,7 @@ use Rattle.card.specs.declared.entry.Entry.the-variants.{Shape, Occurs, 
 use Rattle.card.specs.declared.list.Ending.{Ending}
 use Rattle.card.specs.declared.list.Pair.{Pair}
 use Rattle.card.specs.declared.list.Turn.the-variants.{Refused, Next, Last}
-use Rattle.card.proofs.LineLaws.{Found, found, turn-none, turn-found, behind-found}
+use Rattle.card.proofs.LineLaws.{LineFound, found, turn-none, turn-found, behind-found}
 
 -- ---- a pair within its limits
 
@@ -134,7 +134,7 @@ pub record Onward (s : List ℕ) (at next : ℕ) : Type 0 where
   pub room : next ≤ length s
   pub on : behind (linesOf (drop at s)) ≡ linesOf (drop next s)
 
-onward : {s : List ℕ} {at e n : ℕ} → Found s at e → e + 1 ≡ n → Onward s at n
+onward : {s : List ℕ} {at e n : ℕ} → LineFound s at e → e + 1 ≡ n → Onward s at n
 onward {s} k z =
     let a = k .from in
     let b = k .room in
@@ -182,7 +182,7 @@ module _ (name : List ℕ) (E U : ℕ) where
       go (line l rest) = refl
 
 -- what the loop keeps: the answer is that of the lines from here on, with what was read so far
-pub record Listing (s : List ℕ) (E U from : ℕ) (t : List ℕ) (last : Pair) (n at : ℕ) : Type 0 where
+pub record Collecting (s : List ℕ) (E U from : ℕ) (t : List ℕ) (last : Pair) (n at : ℕ) : Type 0 where
   pub sized : length t ≡ limit * limit
   pub room : at ≤ length s
   pub fewer : n ≤ at
@@ -194,8 +194,8 @@ take-replicate zero n h = refl
 take-replicate (suc m) zero h = absurd (omega arith)
 take-replicate (suc m) (suc n) h = ap (λ l. 0 ∷ l) (take-replicate m n (omega arith))
 
-pub listing-start : (s : List ℕ) (E U from : ℕ) → inLimits E U ≡ true → from ≤ length s → Listing s E U from (replicate (limit * limit) 0) (pairOf 0 0) 0 from
-listing-start s E U from h r =
+pub collecting-start : (s : List ℕ) (E U from : ℕ) → inLimits E U ≡ true → from ≤ length s → Collecting s E U from (replicate (limit * limit) 0) (pairOf 0 0) 0 from
+collecting-start s E U from h r =
     record {
       sized = length-replicate {A = ℕ} (limit * limit) 0;
       room = r;
@@ -204,10 +204,10 @@ listing-start s E U from h r =
           (take-replicate (E * U) (limit * limit) (cells-within E U h));
     }
 
-module _ {s : List ℕ} {E U from : ℕ} {t : List ℕ} {last : Pair} {n at : ℕ} (k : Listing s E U from t last n at) where
-  pub listing-next : {p : Pair} {code next : ℕ} → turnOf E U (last .equation .0) (last .unknown .0) at (linesOf (drop at s)) ≡ Next p code next
-      → Listing s E U from (set t (cell U (p .equation .0) (p .unknown .0)) code) p (n + 1) next
-  listing-next {p} {code} {next} q =
+module _ {s : List ℕ} {E U from : ℕ} {t : List ℕ} {last : Pair} {n at : ℕ} (k : Collecting s E U from t last n at) where
+  pub collecting-next : {p : Pair} {code next : ℕ} → turnOf E U (last .equation .0) (last .unknown .0) at (linesOf (drop at s)) ≡ Next p code next
+      → Collecting s E U from (set t (cell U (p .equation .0) (p .unknown .0)) code) p (n + 1) next
+  collecting-next {p} {code} {next} q =
       let w = turn-next s E U (last .equation .0) (last .unknown .0) at q in
       let m : at < next = w .1 .more in
       let f : n ≤ at = k .fewer in
@@ -221,9 +221,9 @@ module _ {s : List ℕ} {E U from : ℕ} {t : List ℕ} {last : Pair} {n at : �
             ∙ rw (q, w .1 .on, take-set-lt (E * U) t (cell U (p .equation .0) (p .unknown .0)) code (cell-within (w .0 .ranged)));
       }
 
-  pub listing-refused : {m : ℕ} → turnOf E U (last .equation .0) (last .unknown .0) at (linesOf (drop at s)) ≡ Refused m
+  pub collecting-refused : {m : ℕ} → turnOf E U (last .equation .0) (last .unknown .0) at (linesOf (drop at s)) ≡ Refused m
       → ListRead s E U from (record { number = m; place = at; table = t })
-  listing-refused {m} q =
+  collecting-refused {m} q =
       let w = turn-refused E U (last .equation .0) (last .unknown .0) at (linesOf (drop at s)) q in
       record {
         same = λ name.
@@ -242,25 +242,25 @@ module _ {s : List ℕ} {E U from : ℕ} {t : List ℕ} {last : Pair} {n at : �
         ∙ collected-turn name E U n (last .equation .0) (last .unknown .0) (take (E * U) t) at (linesOf (drop at s))
         ∙ rw (q, w .on)
 
-    listing-wrong : (m ≡ n → ⊥) → ListRead s E U from (record { number = 16; place = at; table = t })
-    listing-wrong h = record { same = λ name. ending name ∙ rw (ne-eqb m n h); sized = k .sized }
+    collecting-wrong : (m ≡ n → ⊥) → ListRead s E U from (record { number = 16; place = at; table = t })
+    collecting-wrong h = record { same = λ name. ending name ∙ rw (ne-eqb m n h); sized = k .sized }
 
-    listing-more : m ≡ n → next < length s → ListRead s E U from (record { number = 11; place = next; table = t })
-    listing-more h l =
+    collecting-more : m ≡ n → next < length s → ListRead s E U from (record { number = 11; place = next; table = t })
+    collecting-more h l =
         record {
           same = λ name. ending name ∙ rw (eq-eqb m n h) (finished-more name E U (take (E * U) t) next (drop next s) (rw length-drop (omega arith)));
           sized = k .sized;
         }
 
-    listing-end : m ≡ n → length s ≤ next → ListRead s E U from (record { number = 0; place = 0; table = t })
-    listing-end h l = record { same = λ name. ending name ∙ rw (eq-eqb m n h, drop-of-length-le s l); sized = k .sized }
+    collecting-end : m ≡ n → length s ≤ next → ListRead s E U from (record { number = 0; place = 0; table = t })
+    collecting-end h l = record { same = λ name. ending name ∙ rw (eq-eqb m n h, drop-of-length-le s l); sized = k .sized }
 
     -- by the tests of the end line
-    pub listing-ended : {r : Ending} → r ≡ endSaid (length s) m n at next → ListRead s E U from (record { number = r .0; place = r .1; table = t })
-    listing-ended {r} e =
+    pub collecting-ended : {r : Ending} → r ≡ endSaid (length s) m n at next → ListRead s E U from (record { number = r .0; place = r .1; table = t })
+    collecting-ended {r} e =
         rw e
         (test (eqb m n)
         (λ h. test (ltb next (length s))
-        (λ l. rw (h, l) (listing-more (eqb-true m n h) (ltb-true next (length s) l)))
-        (λ l. rw (h, l) (listing-end (eqb-true m n h) (ltb-false next (length s) l))))
-        (λ h. rw h (listing-wrong (eqb-false m n h))))
+        (λ l. rw (h, l) (collecting-more (eqb-true m n h) (ltb-true next (length s) l)))
+        (λ l. rw (h, l) (collecting-end (eqb-true m n h) (ltb-false next (length s) l))))
+        (λ h. rw h (collecting-wrong (eqb-false m n h))))

@@ -41,12 +41,12 @@ module _ (U e u : ℕ) (a : 1 ≤ e) (b : 1 ≤ u) (c : u ≤ U) where
   column-of = let z : (u - 1) + 1 ≡ u = omega arith in ap (λ n. n + 1) (digits-mod (e - 1) {m = U} {r = u - 1} (omega arith)) ∙ z
 
 -- the numbers of a byte within the table
-pub record Placed (E U c : ℕ) : Type 0 where
+pub record PairAt (E U c : ℕ) : Type 0 where
   pub e-high : c / U + 1 ≤ E
   pub u-high : c % U + 1 ≤ U
 
-pub placed : (E U c : ℕ) → 1 ≤ U → c < E * U → Placed E U c
-placed E U c h l = let q = div-lt-iff-lt-mul {k = U} {x = c} {y = E} h .1 l in let r = mod-lt c {m = U} h in record
+pub pair-at : (E U c : ℕ) → 1 ≤ U → c < E * U → PairAt E U c
+pair-at E U c h l = let q = div-lt-iff-lt-mul {k = U} {x = c} {y = E} h .1 l in let r = mod-lt c {m = U} h in record
     { e-high = omega arith; u-high = omega arith }
 
 -- a pair, 0, 0 where there is none, all of whose bytes stand before c

@@ -1,6 +1,7 @@
 -- What the promises of `read`, `write` and `name_of` come to: one outcome each, which inputs are good, what succeeds and what a refusal leaves alone,
 -- both round trips, and the bounds of every number. Each goes by the cases of `judged`, or by the writer's tests one after another.
 use mathlib.Core.Path.{_≡_, refl, ap, sym, _∙_}
+use mathlib.Core.Bool.{_&&_}
 use mathlib.Core.List.{List, _++_}
 use mathlib.Core.Logic.{_↔_}
 use Prim.Native.Nat.{ℕ, _+_, _*_, _≤_}
@@ -9,11 +10,11 @@ use denote.Ref.{RefT}
 use lib.Dec.{leb, ltb, eqb}
 use lib.ListN.{length, take, drop, length-append}
 use lib.Seq.{take-at}
-use borrow.Author.Tests.{ne-eqb, eqb-true, le-ltb, le-leb, ltb-false}
-use Rattle.laws.proofs.Tests.{test}
+use borrow.Author.Tests.{ne-eqb, eqb-true, le-ltb, le-leb, ltb-false, leb-true}
+use Rattle.laws.proofs.Tests.{test, and-left, and-right}
 use Rattle.table.specs.Model.{limit, inLimits, firstAbove}
 use Rattle.table.proofs.Model.{limits, above-most}
-use Rattle.card.specs.Entry.{goodName}
+use Rattle.card.specs.Entry.{nameByte, every, goodName}
 use Rattle.card.specs.Card.{Judged, refused, good, judged, readOf, tableOf, nameOf, nameAt, cardOf, wroteNone, cardAfter}
 use Rattle.card.specs.Promise.{WriteGood, IsCard, ReadDone, NamePart, WriteDone}
 use Rattle.card.specs.declared.Reading.{Reading}
@@ -192,6 +193,21 @@ write-fits {name} {t} {before} {after} {E} {U} {r} k =
     none-fits e f g = at-most e (record { number = f; place = g; length-fits = omega arith })
 
 -- ---- the name question
+
+-- the name of a good card has 1 to 24 bytes, and a name that is asked for has no more
+pub name-length : (s name : List ℕ) (E U : ℕ) (t : List ℕ) → judged s ≡ good name E U t → (1 ≤ length name) × (length name ≤ 24)
+name-length s name E U t p =
+    let l = leb 1 (length name) in
+    let h = leb (length name) 24 in
+    let b = and-left (l && h) (every nameByte name) (good-card s name E U t p .fine .named) in
+    (leb-true 1 (length name) (and-left l h b), leb-true (length name) 24 (and-right l h b))
+
+pub name-fits : (s : List ℕ) → length (nameOf (judged s)) ≤ 24
+name-fits s = go (judged s) refl
+  where
+    go : (j : Judged) → judged s ≡ j → length (nameOf j) ≤ 24
+    go (refused m at) p = omega arith
+    go (good name E U t) p = name-length s name E U t p .1
 
 -- what it gives are the bytes that stand in the card at the part's place
 pub record NameLies (s : List ℕ) : Type 0 where

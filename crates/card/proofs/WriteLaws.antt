@@ -100,31 +100,31 @@ celling-end {before} {t} {now} {at} {U} {next} {cell} k h =
 
 -- ---- how many occur: what the loop that counts keeps
 
-pub record Counting (t : List ℕ) (count cell : ℕ) : Type 0 where
+pub record CountingCodes (t : List ℕ) (count cell : ℕ) : Type 0 where
   pub within : cell ≤ length t
   pub few : count ≤ cell
   pub same : occurrences t ≡ count + occurrences (drop cell t)
 
-pub counting-start : (t : List ℕ) → Counting t 0 0
+pub counting-start : (t : List ℕ) → CountingCodes t 0 0
 counting-start t = record { within = omega arith; few = omega arith; same = omega arith }
 
-module _ {t : List ℕ} {count cell : ℕ} (k : Counting t count cell) (h : cell < length t) where
+module _ {t : List ℕ} {count cell : ℕ} (k : CountingCodes t count cell) (h : cell < length t) where
   here : drop cell t ≡ getD t cell 0 ∷ drop (cell + 1) t
   here = rw add-one (drop-cons t cell 0 h)
 
-  pub counting-more : (getD t cell 0 ≡ 0 → ⊥) → Counting t (count + 1) (cell + 1)
+  pub counting-more : (getD t cell 0 ≡ 0 → ⊥) → CountingCodes t (count + 1) (cell + 1)
   counting-more n =
       let f = k .few in
       let e : occurrences (drop cell t) ≡ occurrences (drop (cell + 1) t) + 1 = rw (here, ne-eqb (getD t cell 0) 0 n) in
       record { within = omega arith; few = omega arith; same = k .same ∙ omega arith }
 
-  pub counting-same : getD t cell 0 ≡ 0 → Counting t count (cell + 1)
+  pub counting-same : getD t cell 0 ≡ 0 → CountingCodes t count (cell + 1)
   counting-same n =
       let f = k .few in
       let e : occurrences (drop cell t) ≡ occurrences (drop (cell + 1) t) = rw (here, eq-eqb (getD t cell 0) 0 n) in
       record { within = omega arith; few = omega arith; same = k .same ∙ omega arith }
 
-pub counting-end : {t : List ℕ} {count cell : ℕ} → Counting t count cell → length t ≤ cell → count ≡ occurrences t
+pub counting-end : {t : List ℕ} {count cell : ℕ} → CountingCodes t count cell → length t ≤ cell → count ≡ occurrences t
 counting-end {t} {count} {cell} k h = let e : occurrences (drop cell t) ≡ 0 = rw (drop-of-length-le t h) in let s = k .same in omega arith
 
 -- ---- the whole card

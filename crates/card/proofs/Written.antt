@@ -20,7 +20,7 @@ use Rattle.card.specs.declared.entry.Entry.the-variants.{Occurs, End}
 use Rattle.card.specs.declared.judge.Rig.the-variants.{Named}
 use Rattle.card.specs.declared.judge.Count.the-variants.{Counts}
 use Rattle.card.proofs.Lines.{value-dec, entry-occurs, entry-ended, lines-of, rig-clear, value-clear, occurs-clear}
-use Rattle.card.proofs.Order.{cell-of, placed, Behind, behind-none, behind-some, behind-more, behind-after}
+use Rattle.card.proofs.Order.{cell-of, pair-at, Behind, behind-none, behind-some, behind-more, behind-after}
 use Rattle.card.proofs.ListLaws.{cells-within}
 
 -- ---- codes and their number
@@ -105,7 +105,7 @@ module _ (name : List ℕ) (E U : ℕ) where
   -- a byte within the table, its code at most 4, has a pair in range
   in-range : (c x : ℕ) → 1 ≤ U → c < E * U → small x ≡ true → inRange E U (c / U + 1) (c % U + 1) (x - 1) ≡ true
   in-range c x lo l s =
-      let k = placed E U c lo l in
+      let k = pair-at E U c lo l in
       let v = leb-true x topCode s in
       and-both (and-both (and-both (le-leb 1 (c / U + 1) (omega arith)) (le-leb (c / U + 1) E (k .e-high)))
       (and-both (le-leb 1 (c % U + 1) (omega arith)) (le-leb (c % U + 1) U (k .u-high)))) (le-leb (x - 1) 3 (omega arith))
@@ -126,7 +126,7 @@ module _ (name : List ℕ) (E U : ℕ) where
         let lo : 1 ≤ U = bounds .1 .low in
         let u-top : U ≤ limit = bounds .1 .high in
         let within : c < E * U = omega arith in
-        let pl = placed E U c lo within in
+        let pl = pair-at E U c lo within in
         test (eqb x 0)
         (λ h.
         let cnt′ : N ≡ n + occurrences r = cnt ∙ rw h in

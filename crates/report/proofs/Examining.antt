@@ -1,17 +1,15 @@
 -- Laws of what a card comes to: a refusal of its own, or what the analysis hands back for its table; and of the two ends of the report.
 use mathlib.Core.Path.{_≡_, refl, ap, _∙_}
-use mathlib.Core.Bool.{_&&_}
 use mathlib.Core.List.{List, [], _++_}
 use Prim.Native.Nat.{ℕ, _+_, _*_, _%_, _≤_, _<_}
 use native.Mathlib.Omega.{arith}
-use lib.Dec.{leb, ltb}
+use lib.Dec.{ltb}
 use lib.ListN.{length, take, drop, replicate}
 use lib.Seq.{sets-eq, take-at}
-use borrow.Author.Tests.{eq-eqb, ne-eqb, le-leb, lt-leb, leb-true, ltb-true}
-use Rattle.laws.proofs.Tests.{test, and-left, and-right}
+use borrow.Author.Tests.{eq-eqb, ne-eqb, le-leb, lt-leb, ltb-true}
+use Rattle.laws.proofs.Tests.{test}
 use Rattle.table.specs.Model.{limit}
 use Rattle.table.proofs.Model.{limits}
-use Rattle.card.specs.Entry.{nameByte, every}
 use Rattle.card.specs.Card.{Judged, refused, good, judged, readOf, nameOf}
 use Rattle.card.specs.Promise.{ReadDone}
 use Rattle.card.specs.Laid.{Laid}
@@ -24,21 +22,6 @@ use Rattle.report.specs.Printed.{refusedText, PrintedOf, Printed, inputL
 use Rattle.report.specs.Steps.{solvableText, singularText, verdictText, findingsText, refusedAs, Analysed, Examined}
 use Rattle.report.specs.declared.Findings.{Findings}
 use Rattle.report.proofs.Truth.{answered-prints}
-
--- the name of a good card has 1 to 24 bytes, and a name that is asked for has no more
-pub name-length : (s name : List ℕ) (E U : ℕ) (t : List ℕ) → judged s ≡ good name E U t → (1 ≤ length name) × (length name ≤ 24)
-name-length s name E U t p =
-    let l = leb 1 (length name) in
-    let h = leb (length name) 24 in
-    let b = and-left (l && h) (every nameByte name) (good-card s name E U t p .fine .named) in
-    (leb-true 1 (length name) (and-left l h b), leb-true (length name) 24 (and-right l h b))
-
-pub name-short : (s : List ℕ) → length (nameOf (judged s)) ≤ 24
-name-short s = go (judged s) refl
-  where
-    go : (j : Judged) → judged s ≡ j → length (nameOf j) ≤ 24
-    go (refused m at) p = omega arith
-    go (good name E U t) p = name-length s name E U t p .1
 
 pub examined-long : (s : List ℕ) → inputLimit < length s → Examined s (refusedAs 19 0)
 examined-long s h = record { printed = record { long = λ _. refl; short = λ k. absurd (omega arith) }; within = omega arith }

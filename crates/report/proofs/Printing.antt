@@ -20,7 +20,7 @@ use Rattle.report.specs.Steps.{stripIn, solvableText, singularText, verd
 use Rattle.analysis.specs.Outcome.{codeIn, rankIn, indexIn, freedomIn}
 use Rattle.report.proofs.TextLaws.{joined-short, used-short, strip-short, place-short}
 use Rattle.report.proofs.Truth.{Answered, prints-answered}
-use Rattle.report.proofs.Examining.{name-short}
+use Rattle.card.proofs.Theorems.{name-fits}
 
 -- ---- one text
 
@@ -94,7 +94,7 @@ text-short {input} {text} p =
     go (good name E U t) q p =
         let w = prints-answered input q p in
         let g = good-card input name E U t q .fine in
-        let n : length name ≤ 24 = rw q at (name-short input) in
+        let n : length name ≤ 24 = rw q at (name-fits input) in
         let m = limits E U (g .limits) in
         rw (w .says)
         (test (eqb (codeIn (w .number)) 0)

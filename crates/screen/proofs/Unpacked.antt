@@ -9,9 +9,8 @@ use Rattle.card.specs.Card.{Judged, refused, good, judged, readOf, nameOf, name
 use Rattle.card.specs.Promise.{ReadDone, WriteDone}
 use Rattle.card.specs.declared.Reading.{Reading}
 use Rattle.card.specs.declared.Writing.{Writing}
-use Rattle.card.proofs.Theorems.{ReadFits, read-fits, WriteFits, write-fits}
-use Rattle.report.proofs.Examining.{name-length, name-short}
-use Rattle.screen.specs.Packed.{packed, readNumber, writeNumber, nameNumber, ReadPacked, WritePacked, NamePacked}
+use Rattle.card.proofs.Theorems.{ReadFits, read-fits, WriteFits, write-fits, name-fits, name-length}
+use Rattle.screen.specs.Packed.{packedCard, readNumber, writeNumber, nameNumber, ReadPacked, WritePacked, NamePacked}
 use Rattle.screen.specs.Packed.{firstIn, secondIn, fourthIn, fifthIn, twoFromFourthIn}
 
 -- ---- the contracts
@@ -24,7 +23,7 @@ pub write-packed : {name t before after : List ℕ} {E U : ℕ} {r : Writing} {n
 write-packed {name} {t} {before} {after} {E} {U} k e =
     record { answer = e ∙ ap writeNumber (k .answer); bytes = k .bytes ∙ ap (λ r. cardAfter before r (cardOf name E U t)) (k .answer) }
 
--- and back: the promise of `card` for what was packed
+-- and back: the promise of `card` for what was packedCard
 pub read-done : {s before after : List ℕ} {n : ℕ} → ReadPacked s before n after → ReadDone s before (readOf (length before) (judged s)) after
 read-done k = record { answer = refl; bytes = k .bytes }
 
@@ -44,7 +43,7 @@ name-none s {part} e h = go (judged s) refl
         let n : length name ≡ 0 = rw z at h in
         absurd (omega arith)
 
-pub name-some : (s : List ℕ) {part : List ℕ} {n : ℕ} → part ≡ nameOf (judged s) → (length part ≡ 0 → ⊥) → n ≡ packed (length part) 4 0 0 → NamePacked s n
+pub name-some : (s : List ℕ) {part : List ℕ} {n : ℕ} → part ≡ nameOf (judged s) → (length part ≡ 0 → ⊥) → n ≡ packedCard (length part) 4 0 0 → NamePacked s n
 name-some s {part} {n} e h q = go (judged s) refl
   where
     go : (j : Judged) → judged s ≡ j → NamePacked s n
@@ -86,7 +85,7 @@ pub record NameWhole (s : List ℕ) (n : ℕ) : Type 0 where
 
 pub name-whole : {s : List ℕ} {n : ℕ} → NamePacked s n → NameWhole s n
 name-whole {s} {n} k =
-    let (a, b) = go (judged s) (k .answer) (name-short s) in
+    let (a, b) = go (judged s) (k .answer) (name-fits s) in
     record { long = a; place = b }
   where
     go : (j : Judged) → n ≡ nameNumber j → length (nameOf j) ≤ 24 → (firstIn n ≡ length (nameOf j)) × (secondIn n ≡ nameAt j)

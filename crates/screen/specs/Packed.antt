@@ -8,12 +8,12 @@ use Rattle.card.specs.declared.Reading.{Reading}
 use Rattle.card.specs.declared.Writing.{Writing}
 
 -- from the lowest byte: a byte, two bytes, low first, and what stands in the fourth and from the fifth byte on
-abbrev pub packed : ℕ → ℕ → ℕ → ℕ → ℕ
-packed first second fourth fifth = first + second * 256 + fourth * 16777216 + fifth * 4294967296
+abbrev pub packedCard : ℕ → ℕ → ℕ → ℕ → ℕ
+packedCard first second fourth fifth = first + second * 256 + fourth * 16777216 + fifth * 4294967296
 
 -- the reader: number, place in two bytes, E, U, then 0
 abbrev pub readNumber : Reading → ℕ
-readNumber r = packed (r .number) (r .place) (r .equations) (r .unknowns)
+readNumber r = packedCard (r .number) (r .place) (r .equations) (r .unknowns)
 
 pub record ReadPacked (card before : List ℕ) (number : ℕ) (after : List ℕ) : Type 0 where
   pub answer : number ≡ readNumber (readOf (length before) (judged card))
@@ -21,7 +21,7 @@ pub record ReadPacked (card before : List ℕ) (number : ℕ) (after : List ℕ)
 
 -- the writer: number, place in two bytes, length in two bytes, then 0
 abbrev pub writeNumber : Writing → ℕ
-writeNumber w = packed (w .number) (w .place) (w .length) 0
+writeNumber w = packedCard (w .number) (w .place) (w .length) 0
 
 pub record WritePacked (name : List ℕ) (E U : ℕ) (table before : List ℕ) (number : ℕ) (after : List ℕ) : Type 0 where
   pub answer : number ≡ writeNumber (writeOf (length before) name E U table)
@@ -29,7 +29,7 @@ pub record WritePacked (name : List ℕ) (E U : ℕ) (table before : List ℕ) (
 
 -- the name question: the length of the part that holds the name, its offset in the card in two bytes, then 0
 abbrev pub nameNumber : Judged → ℕ
-nameNumber j = packed (length (nameOf j)) (nameAt j) 0 0
+nameNumber j = packedCard (length (nameOf j)) (nameAt j) 0 0
 
 pub record NamePacked (card : List ℕ) (number : ℕ) : Type 0 where
   pub answer : number ≡ nameNumber (judged card)

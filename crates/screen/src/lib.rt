@@ -8,12 +8,12 @@ ghost use mathlib.Core.Path.{_≡_};
 ghost use Prim.Native.Nat.{_≤_};
 ghost use Rattle.analysis.specs.Outcome.{Reply};
 ghost use Rattle.report.specs.Printed.{Reported};
-ghost use Rattle.screen.specs.Packed.{packed, ReadPacked, WritePacked, NamePacked};
+ghost use Rattle.screen.specs.Packed.{packedCard, ReadPacked, WritePacked, NamePacked};
 
 // Numbers as one, from the lowest byte: a byte, two bytes, low first, and what stands in the fourth and from the fifth byte on.
 fn pack(first: usize, second: usize, fourth: usize, fifth: usize) -> u64
     requires { ⌜ (first ≤ 255) × (second ≤ 65535) × (fourth ≤ 65535) × (fifth ≤ 255) ⌝ }
-    ensures { λ r. ⌜ r ≡ packed first second fourth fifth ⌝ }
+    ensures { λ r. ⌜ r ≡ packedCard first second fourth fifth ⌝ }
 {
     (first as u64)
         + (second as u64) * 256

@@ -1,5 +1,6 @@
 -- `report::report` meets its contract: the text is measured by laying it into nothing, and laid where there is room for all of it.
-use Rattle.report.proofs.Examining.{name-short, reported-none, reported-all}
+use Rattle.report.proofs.Examining.{reported-none, reported-all}
+use Rattle.card.proofs.Theorems.{name-fits}
 use borrow.Author.Needs.{needs}
 use Rattle.report.proofs.report.Statement.{statement}
 use Rattle.report.proofs.report.Tie as tie
@@ -21,7 +22,7 @@ put-text-requires c κs =
     let after-name-of = c .before in
     let after-examined = after-name-of .before in
     let start = after-examined .before .before .before in
-    (rw (after-name-of .name-of .ensures .bytes) (name-short (start .args .card .now)), after-examined .examined .ensures .within)
+    (rw (after-name-of .name-of .ensures .bytes) (name-fits (start .args .card .now)), after-examined .examined .ensures .within)
 
 same-length : tie.Need-same-length
 same-length c = search needs
@@ -40,7 +41,7 @@ put-text-requires-2 c κs =
     let after-name-of = c .before .before .before .before .before .before in
     let after-examined = after-name-of .before in
     let start = after-examined .before .before .before in
-    (rw (after-name-of .name-of .ensures .bytes) (name-short (start .args .card .now)), after-examined .examined .ensures .within)
+    (rw (after-name-of .name-of .ensures .bytes) (name-fits (start .args .card .now)), after-examined .examined .ensures .within)
 
 same-length-2 : tie.Need-same-length-2
 same-length-2 c = search needs

@@ -1,6 +1,6 @@
 -- `screen::mudorder_name` meets its contract: an empty part is a refusal's, and any other starts behind `rig=`.
 use Rattle.screen.proofs.Unpacked.{name-none, name-some}
-use Rattle.report.proofs.Examining.{name-short}
+use Rattle.card.proofs.Theorems.{name-fits}
 use native.Mathlib.Omega.{arith}
 use borrow.Author.Needs.{needs}
 use Rattle.screen.proofs.mudorder_name.Statement.{statement}
@@ -16,7 +16,7 @@ pack-requires : tie.Need-pack-requires
 pack-requires c κs =
     let after-name-of = c .before in
     let start = after-name-of .before .before in
-    (rw (after-name-of .name-of .ensures .bytes) (omega (arith, name-short (start .args .card .now))), omega arith, omega arith, omega arith)
+    (rw (after-name-of .name-of .ensures .bytes) (omega (arith, name-fits (start .args .card .now))), omega arith, omega arith, omega arith)
 
 returns-2 : tie.Need-returns-2
 returns-2 c =

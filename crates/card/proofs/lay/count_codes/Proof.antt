@@ -2,12 +2,12 @@
 use Prim.Native.Nat.{_-_}
 use native.Mathlib.Omega.{arith}
 use lib.ListN.{length}
-use Rattle.card.proofs.WriteLaws.{Counting, counting-start, counting-more, counting-same, counting-end}
+use Rattle.card.proofs.WriteLaws.{CountingCodes, counting-start, counting-more, counting-same, counting-end}
 use Rattle.card.proofs.lay.count_codes.Statement.{statement}
 use Rattle.card.proofs.lay.count_codes.Tie as tie
 
 abbrev Inv-loop : tie.InvT-loop
-Inv-loop table count₀ cell₀ count cell = Counting table count cell
+Inv-loop table count₀ cell₀ count cell = CountingCodes table count cell
 
 abbrev μ-loop : tie.MeasureT-loop
 μ-loop table count₀ cell₀ count cell = length table - cell

@@ -1,22 +1,22 @@
--- `card::list::read_list` meets its contract: the loop keeps `Listing`, that the answer is that of the lines from here on with what was read so far.
+-- `card::list::read_list` meets its contract: the loop keeps `Collecting`, that the answer is that of the lines from here on with what was read so far.
 use mathlib.Core.Path.{sym, _∙_}
 use Prim.Native.Nat.{_-_}
 use native.Mathlib.Omega.{arith}
 use borrow.Author.Needs.{needs}
 use lib.ListN.{length}
-use Rattle.card.proofs.ListLaws.{Listing, listing-start, listing-next, listing-refused, listing-ended, turn-next}
+use Rattle.card.proofs.ListLaws.{Collecting, collecting-start, collecting-next, collecting-refused, collecting-ended, turn-next}
 use Rattle.card.proofs.ListLaws.{Taking, Onward, place-fits, cell-fits}
 use Rattle.card.proofs.list.read_list.Statement.{statement}
 use Rattle.card.proofs.list.read_list.Tie as tie
 
 abbrev Inv-loop : tie.InvT-loop
-Inv-loop card from equations unknowns table₀ last₀ count₀ at₀ table last count at = Listing card equations unknowns from table last count at
+Inv-loop card from equations unknowns table₀ last₀ count₀ at₀ table last count at = Collecting card equations unknowns from table last count at
 
 abbrev μ-loop : tie.MeasureT-loop
 μ-loop card from equations unknowns table₀ last₀ count₀ at₀ table last count at = length card - at
 
 loop-holds : tie.Need-loop-holds Inv-loop μ-loop
-loop-holds c = listing-start (c .before .args .card .now) (c .before .args .equations) (c .before .args .unknowns) (c .before .args .from)
+loop-holds c = collecting-start (c .before .args .card .now) (c .before .args .equations) (c .before .args .unknowns) (c .before .args .from)
     (c .before .pre .0) (c .before .pre .1)
 
 read-turn-requires : tie.Need-read-turn-requires Inv-loop μ-loop
@@ -26,7 +26,7 @@ enum-known-number : tie.Need-enum-known-number Inv-loop μ-loop
 enum-known-number c = search needs
 
 returns : tie.Need-returns Inv-loop μ-loop
-returns c = listing-refused (c .before .before .before .before .loop .inv) (sym (c .before .before .before .read-turn .ensures) ∙ c .before .number .given .1)
+returns c = collecting-refused (c .before .before .before .before .loop .inv) (sym (c .before .before .before .read-turn .ensures) ∙ c .before .number .given .1)
 
 enum-known-said : tie.Need-enum-known-said Inv-loop μ-loop
 enum-known-said c = search needs
@@ -36,7 +36,7 @@ read-end-requires c κs = search needs
 
 returns-2 : tie.Need-returns-2 Inv-loop μ-loop
 returns-2 c =
-    listing-ended (c .before .before .before .before .before .loop .inv)
+    collecting-ended (c .before .before .before .before .before .loop .inv)
     (sym (c .before .before .before .before .read-turn .ensures) ∙ c .before .before .said .given .1) (c .read-end .ensures)
 
 enum-known-pair : tie.Need-enum-known-pair Inv-loop μ-loop
@@ -99,7 +99,7 @@ loop-less : tie.Need-loop-less Inv-loop μ-loop
 loop-less c = let w = took (c .before .before) .1 in omega (arith, w .more, w .room)
 
 loop-again : tie.Need-loop-again Inv-loop μ-loop
-loop-again c = rw (c .before .place .ensures, c .place2 .ensures) (listing-next
+loop-again c = rw (c .before .place .ensures, c .place2 .ensures) (collecting-next
     (c .before .before .before .before .before .before .before .before .loop .inv)
     (sym (c .before .before .before .before .before .before .before .read-turn .ensures) ∙ c .before .before .before .before .before .pair .given .1))
 
