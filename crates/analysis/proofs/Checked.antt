@@ -62,17 +62,19 @@ bytesOf r before = strips (r .strip1) (r .strip2) (r .strip3) (r .strip4) (r .st
 solved : (n : ℕ) (edge : Rel) (ord : ℕ → ℕ → ℕ) (rank : ℕ) (r : Row) (behind : List ℕ) → allTrue (solvedTests n edge ord rank r) ≡ true
     → Solved n edge ord rank behind (r .number) (bytesOf r behind)
 solved n edge ord rank r behind t = record {
-  counts = r .strip1;
-  tops = r .strip2;
-  partner = placesOf (r .strip3);
-  order = placesOf (r .strip4);
-  block = r .strip5;
-  blocks = before (numberAt (r .strip5)) n;
-  sizes = (long (at 0), long (at 1), long (at 2), long (at 3), long (at 4));
-  least = is-least n edge ord (numberAt (r .strip1)) (numberAt (r .strip2)) (numberAt (placesOf (r .strip3))) (at 7) partners (at 9);
-  first = is-first n (leadIn edge ord r) (numberAt (placesOf (r .strip3))) partners (at 10);
-  placed = is-placed n (needsIn n edge ord r) (needs-within n (leadIn edge ord r) (numberAt (placesOf (r .strip3)))) (numberAt (placesOf (r .strip4)))
-      (numberAt (r .strip5)) (before (numberAt (r .strip5)) n) (at 11);
+  worked = record {
+    counts = r .strip1;
+    tops = r .strip2;
+    partner = placesOf (r .strip3);
+    order = placesOf (r .strip4);
+    block = r .strip5;
+    blocks = before (numberAt (r .strip5)) n;
+    sizes = (long (at 0), long (at 1), long (at 2), long (at 3), long (at 4));
+    least = is-least n edge ord (numberAt (r .strip1)) (numberAt (r .strip2)) (numberAt (placesOf (r .strip3))) (at 7) partners (at 9);
+    first = is-first n (leadIn edge ord r) (numberAt (placesOf (r .strip3))) partners (at 10);
+    placed = is-placed n (needsIn n edge ord r) (needs-within n (leadIn edge ord r) (numberAt (placesOf (r .strip3)))) (numberAt (placesOf (r .strip4)))
+        (numberAt (r .strip5)) (before (numberAt (r .strip5)) n) (at 11);
+  };
   says = eqb-true (r .number) (packed 0 0 rank (indexOf n (numberAt (r .strip1))) (freedomOf n n (numberAt (r .strip1)) (numberAt (r .strip2)))
       (before (numberAt (r .strip5)) n)) (at 12);
   holds = numbered (same-is (r .strip3) (map suc (placesOf (r .strip3))) (at 5)) (same-is (r .strip4) (map suc (placesOf (r .strip4))) (at 6));
@@ -104,10 +106,12 @@ singularTests E U edge M r =
 singular : (E U : ℕ) (edge M : Rel) (r : Row) (behind : List ℕ) → Pairing E U edge M → isLargest E U edge M ≡ true → isLargest U E (turn edge) (turn M) ≡ true
     → allTrue (singularTests E U edge M r) ≡ true → Singular E U edge (size E U M) behind (r .number) (bytesOf r behind)
 singular E U edge M r behind k a b t = record {
-  surplus = members E (marked (overs E U edge M));
-  unfixed = members U (marked (overs U E (turn edge) (turn M)));
-  allSurplus = surplus-are E U edge M k a;
-  allUnfixed = unfixed-are E U edge M k b;
+  lists = record {
+    surplus = members E (marked (overs E U edge M));
+    unfixed = members U (marked (overs U E (turn edge) (turn M)));
+    allSurplus = surplus-are E U edge M k a;
+    allUnfixed = unfixed-are E U edge M k b;
+  };
   says = eqb-true (r .number) (packed 10 0 (size E U M) 0 0 0) (at 5);
   holds = listed (same-is (r .strip1) (map suc (members E (marked (overs E U edge M)))) (at 0))
       (same-is (r .strip2) (map suc (members U (marked (overs U E (turn edge) (turn M))))) (at 1))

@@ -55,14 +55,14 @@ module _ {E U : ℕ} {t before : List ℕ} {number : ℕ} {after : List ℕ} (r 
     -- of a singular model
     module _ (n : E ≡ U → r .verdict z .rank ≡ E → ⊥) where
       -- the surplus equations together contain fewer unknowns than their number by exactly what a largest pairing leaves over of the equations
-      pub surplus-contains : length (r .verdict z .singular n .surplus)
-          ≡ unknownsIn U (occursAt (rowsOf E U t)) (r .verdict z .singular n .surplus) + (E - rankIn number)
-      surplus-contains = listed-deficit shown-rank (r .verdict z .singular n .allSurplus)
+      pub surplus-contains : length (r .verdict z .singular n .lists .surplus)
+          ≡ unknownsIn U (occursAt (rowsOf E U t)) (r .verdict z .singular n .lists .surplus) + (E - rankIn number)
+      surplus-contains = listed-deficit shown-rank (r .verdict z .singular n .lists .allSurplus)
 
       -- the two lists are not both empty
-      pub some-listed : r .verdict z .singular n .surplus ≡ [] → r .verdict z .singular n .unfixed ≡ [] → ⊥
+      pub some-listed : r .verdict z .singular n .lists .surplus ≡ [] → r .verdict z .singular n .lists .unfixed ≡ [] → ⊥
       some-listed a b =
-          let s = r .verdict z .singular n in
+          let s = r .verdict z .singular n .lists in
           unsolvable n (solvable-none shown-rank .1 (empty a (s .allSurplus), empty b (s .allUnfixed)))
         where
           empty : {m : ℕ} {P : ℕ → Type 0} {l : List ℕ} → l ≡ [] → Listed m P l → (i : ℕ) → i < m → P i → ⊥

@@ -18,14 +18,21 @@ use Rattle.laws.specs.Tab.{numberAt}
 use Rattle.counts.proofs.Fit.{one-count, one-top}
 use Rattle.blocks.specs.Blocks.{needsAt, Placed}
 use Rattle.blocks.proofs.Placed.{one-placing, one-number}
-use Rattle.analysis.specs.Outcome.{refusal, Solved, Singular, Verdict, Reply}
+use Rattle.analysis.specs.Outcome.{refusal, Worked, Solved, Lists, Singular, Verdict, Reply}
+
+pub record SameWorked {n : ℕ} {edge : Rel} {ord : ℕ → ℕ → ℕ} (a b : Worked n edge ord) : Type 0 where
+  pub counts : a .counts ≡ b .counts
+  pub tops : a .tops ≡ b .tops
+  pub partner : a .partner ≡ b .partner
+  pub order : a .order ≡ b .order
+  pub block : a .block ≡ b .block
+  pub blocks : a .blocks ≡ b .blocks
 
 -- lists of one length that agree below it are one
 same-list : (n : ℕ) (l l′ : List ℕ) → length l ≡ n → length l′ ≡ n → ((i : ℕ) → i < n → numberAt l i ≡ numberAt l′ i) → l ≡ l′
 same-list n l l′ a b h = ext-getD 0 l l′ (a ∙ sym b) (λ i w. h i (rw a at w))
 
-module _ {n : ℕ} {edge : Rel} {ord : ℕ → ℕ → ℕ} {rank number number′ : ℕ} {before after after′ : List ℕ}
-    (a : Solved n edge ord rank before number after) (b : Solved n edge ord rank before number′ after′) where
+module _ {n : ℕ} {edge : Rel} {ord : ℕ → ℕ → ℕ} (a b : Worked n edge ord) where
   counts-one : a .counts ≡ b .counts
   counts-one = same-list n (a .counts) (b .counts) (a .sizes .0) (b .sizes .0)
       (one-count n n edge ord (numberAt (a .counts)) (numberAt (a .tops)) (numberAt (b .counts)) (numberAt (b .tops)) (a .least) (b .least))
@@ -44,20 +51,34 @@ module _ {n : ℕ} {edge : Rel} {ord : ℕ → ℕ → ℕ} {rank number number�
       (numberAt (b .order)) (numberAt (b .block)) (b .blocks)
   placed-too = rw (counts-one, tops-one, partner-one) (b .placed)
 
-  solved-one : (number ≡ number′) × (after ≡ after′)
-  solved-one =
+  -- any two answers to one model have the same lists and the same number of blocks
+  pub worked-one : SameWorked a b
+  worked-one =
       let same = one-placing (a .placed) placed-too in
-      let order = same-list n (a .order) (b .order) (a .sizes .3) (b .sizes .3) (same .order) in
-      let block = same-list n (a .block) (b .block) (a .sizes .4) (b .sizes .4) (same .block) in
-      let blocks = one-number (a .placed) placed-too in
-      (a .says ∙ (rw (counts-one, tops-one, blocks)) ∙ sym (b .says), a .holds ∙ (rw (counts-one, tops-one, partner-one, order, block)) ∙ sym (b .holds))
+      record {
+        counts = counts-one;
+        tops = tops-one;
+        partner = partner-one;
+        order = same-list n (a .order) (b .order) (a .sizes .3) (b .sizes .3) (same .order);
+        block = same-list n (a .block) (b .block) (a .sizes .4) (b .sizes .4) (same .block);
+        blocks = one-number (a .placed) placed-too;
+      }
+
+solved-one : {n : ℕ} {edge : Rel} {ord : ℕ → ℕ → ℕ} {rank number number′ : ℕ} {before after after′ : List ℕ}
+    → Solved n edge ord rank before number after → Solved n edge ord rank before number′ after′ → (number ≡ number′) × (after ≡ after′)
+solved-one a b =
+    let s = worked-one (a .worked) (b .worked) in
+    (a .says ∙ (rw (s .counts, s .tops, s .blocks)) ∙ sym (b .says), a .holds ∙ (rw (s .counts, s .tops, s .partner, s .order, s .block)) ∙ sym (b .holds))
+
+-- and any two pairs of lists of one model are the same
+pub lists-one : {E U : ℕ} {edge : Rel} (a b : Lists E U edge) → (a .surplus ≡ b .surplus) × (a .unfixed ≡ b .unfixed)
+lists-one a b = (listed-one (a .allSurplus) (b .allSurplus), listed-one (a .allUnfixed) (b .allUnfixed))
 
 singular-one : {E U : ℕ} {edge : Rel} {rank number number′ : ℕ} {before after after′ : List ℕ}
     → Singular E U edge rank before number after → Singular E U edge rank before number′ after′ → (number ≡ number′) × (after ≡ after′)
 singular-one a b =
-    let surplus = listed-one (a .allSurplus) (b .allSurplus) in
-    let unfixed = listed-one (a .allUnfixed) (b .allUnfixed) in
-    (a .says ∙ sym (b .says), a .holds ∙ (rw (surplus, unfixed)) ∙ sym (b .holds))
+    let s = lists-one (a .lists) (b .lists) in
+    (a .says ∙ sym (b .says), a .holds ∙ (rw (s .0, s .1)) ∙ sym (b .holds))
 
 verdict-one : {E U : ℕ} {edge : Rel} {ord : ℕ → ℕ → ℕ} {before : List ℕ} {number number′ : ℕ} {after after′ : List ℕ}
     → Verdict E U edge ord before number after → Verdict E U edge ord before number′ after′ → (number ≡ number′) × (after ≡ after′)

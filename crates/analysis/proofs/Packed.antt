@@ -10,13 +10,12 @@ use Rattle.laws.proofs.Tests.{test}
 use Rattle.table.specs.Model.{inLimits, firstAbove, occursAt, orderAt, rowsOf}
 use Rattle.pairing.specs.Pairing.{Rel}
 use Rattle.pairing.proofs.Sizes.{size-rows}
-use Rattle.counts.specs.Fit.{indexOf, freedomOf}
 use Rattle.counts.specs.Work.{topOrder}
 use Rattle.laws.specs.Tab.{numberAt}
 use Rattle.counts.proofs.Fit.{freedom-high}
 use Rattle.counts.proofs.Gap.{index-bound}
 use Rattle.blocks.specs.Blocks.{before, Placed}
-use Rattle.analysis.specs.Outcome.{packed, codeIn, placeIn, rankIn, indexIn, freedomIn, blocksIn, answerBytes, refusal, refusalPlace, Reply}
+use Rattle.analysis.specs.Outcome.{packed, codeIn, placeIn, rankIn, indexIn, freedomIn, blocksIn, answerBytes, refusal, refusalPlace, Reply, workedIndex, workedFreedom}
 use Rattle.analysis.proofs.Refusal.{accepted, judged-rows, place-fits}
 
 -- what the caller takes off a number
@@ -46,8 +45,8 @@ pub record ReadsBack (E U : ℕ) (t behind : List ℕ) (number : ℕ) (after : L
   pub refused : (refusal E U t (length behind) ≡ 0 → ⊥)
       → Six number (refusal E U t (length behind)) (refusalPlace (refusal E U t (length behind)) t) 0 0 0 0
   pub solvable : (z : refusal E U t (length behind) ≡ 0) (e : E ≡ U) (k : r .verdict z .rank ≡ E)
-      → Six number 0 0 (r .verdict z .rank) (indexOf E (numberAt (r .verdict z .solvable e k .counts)))
-      (freedomOf E E (numberAt (r .verdict z .solvable e k .counts)) (numberAt (r .verdict z .solvable e k .tops))) (r .verdict z .solvable e k .blocks)
+      → Six number 0 0 (r .verdict z .rank) (workedIndex (r .verdict z .solvable e k .worked)) (workedFreedom (r .verdict z .solvable e k .worked))
+      (r .verdict z .solvable e k .worked .blocks)
   pub singular : (z : refusal E U t (length behind) ≡ 0) → (E ≡ U → r .verdict z .rank ≡ E → ⊥) → Six number 10 0 (r .verdict z .rank) 0 0 0
 
 -- the refusals are 1 to 4
@@ -77,12 +76,12 @@ reads-back {E} {U} {t} {behind} r = record {
   solvable = λ z e k.
       let j = judged-rows (accepted E U t (length behind) z) in
       let few = j .equations in
-      let s = r .verdict z .solvable e k in
+      let s = r .verdict z .solvable e k .worked in
       let orders : (f u : ℕ) → f < E → u < E → orderAt (rowsOf E U t) f u ≤ topOrder = λ f u h b. let q = j .codes f u h (omega arith) in omega arith in
       let i = index-bound E E topOrder (occursAt (rowsOf E U t)) (orderAt (rowsOf E U t)) orders (numberAt (s .counts)) (numberAt (s .tops)) (s .least) in
       let f = freedom-high E topOrder (occursAt (rowsOf E U t)) (orderAt (rowsOf E U t)) (numberAt (s .counts)) (numberAt (s .tops)) (s .least .fit) orders in
       let b = blocks-most (s .placed) in
-      unpacked (s .says) (omega arith) (omega arith) (omega arith) (omega arith) (omega arith) (omega arith);
+      unpacked (r .verdict z .solvable e k .says) (omega arith) (omega arith) (omega arith) (omega arith) (omega arith) (omega arith);
   singular = λ z n.
       let few = judged-rows (accepted E U t (length behind) z) .equations in
       let v = r .verdict z in

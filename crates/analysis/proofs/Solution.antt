@@ -131,24 +131,26 @@ module _ (n : ℕ) (t : List (List ℕ)) (counts tops : List ℕ) (partners : Li
       ++ drop answerBytes before
       → Solved n (occursAt t) (orderAt t) n before number after
   is-solved before (lc, lt, lb) q r = record {
-    counts = take n counts;
-    tops = take n tops;
-    partner = placesOf (take n (map unknownNumber partners));
-    order = placesOf (take n (map equationNumber order));
-    block = take n block;
-    blocks = blocks;
-    sizes = (
-      long counts lc,
-      long tops lt,
-      front-places n (map unknownNumber partners) partner-from-one,
-      front-places n (map equationNumber order) order-from-one,
-      long block lb,
-    );
-    least = subst₂ (λ (c d : ℕ → ℕ). Least n n (occursAt t) (orderAt t) c d) counts-are tops-are (s .least);
-    first = subst₃ (λ (c d p : ℕ → ℕ). First n n (lead c d) p) counts-are tops-are partner-is firsts;
-    placed = subst₃ (λ (c d p : ℕ → ℕ). Placed n (needsAt n (lead c d) p) (numberAt (placesOf (take n (map equationNumber order)))) (numberAt (take n block)) blocks)
-        counts-are tops-are partner-is
-        (subst₂ (λ (o b : ℕ → ℕ). Placed n (needsAt n (leadingAt t counts tops) (partnerAt partners)) o b blocks) order-is block-is places);
+    worked = record {
+      counts = take n counts;
+      tops = take n tops;
+      partner = placesOf (take n (map unknownNumber partners));
+      order = placesOf (take n (map equationNumber order));
+      block = take n block;
+      blocks = blocks;
+      sizes = (
+        long counts lc,
+        long tops lt,
+        front-places n (map unknownNumber partners) partner-from-one,
+        front-places n (map equationNumber order) order-from-one,
+        long block lb,
+      );
+      least = subst₂ (λ (c d : ℕ → ℕ). Least n n (occursAt t) (orderAt t) c d) counts-are tops-are (s .least);
+      first = subst₃ (λ (c d p : ℕ → ℕ). First n n (lead c d) p) counts-are tops-are partner-is firsts;
+      placed = subst₃ (λ (c d p : ℕ → ℕ). Placed n (needsAt n (lead c d) p) (numberAt (placesOf (take n (map equationNumber order)))) (numberAt (take n block)) blocks)
+          counts-are tops-are partner-is
+          (subst₂ (λ (o b : ℕ → ℕ). Placed n (needsAt n (leadingAt t counts tops) (partnerAt partners)) o b blocks) order-is block-is places);
+    };
     says = q ∙ ap₂ (λ (i f : ℕ). packed 0 0 n i f blocks) (s .isIndex ∙ ap (λ (c : ℕ → ℕ). indexOf n c) counts-are)
         (s .isFreedom ∙ ap₂ (λ (c d : ℕ → ℕ). freedomOf n n c d) counts-are tops-are);
     holds = r ∙ ap₂ (λ (p o : List ℕ). strips (take n counts) (take n tops) p o (take n block) ++ drop answerBytes before)

@@ -58,10 +58,12 @@ verdict-singular {E} {U} {rank} {surplus = surplus} {unfixed} l w q r = record {
   ranked = l .ranked;
   solvable = λ a b. clash (and-both (eq-eqb E U a) (eq-eqb rank E b)) w;
   singular = λ _. record {
-    surplus = members E (marked surplus);
-    unfixed = members U (marked unfixed);
-    allSurplus = members-listed E (marked surplus) (λ e h. (λ t. l .equations e .0 t .1, λ s. l .equations e .1 (h, s)));
-    allUnfixed = members-listed U (marked unfixed) (λ u h. (λ t. l .unknowns u .0 t .1, λ s. l .unknowns u .1 (h, s)));
+    lists = record {
+      surplus = members E (marked surplus);
+      unfixed = members U (marked unfixed);
+      allSurplus = members-listed E (marked surplus) (λ e h. (λ t. l .equations e .0 t .1, λ s. l .equations e .1 (h, s)));
+      allUnfixed = members-listed U (marked unfixed) (λ u h. (λ t. l .unknowns u .0 t .1, λ s. l .unknowns u .1 (h, s)));
+    };
     says = q;
     holds = r;
   };

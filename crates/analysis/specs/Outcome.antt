@@ -70,9 +70,9 @@ pub record Refused (code : ℕ) (table before : List ℕ) (number : ℕ) (after 
   pub says : number ≡ packed code (refusalPlace code table) 0 0 0 0
   pub holds : after ≡ before
 
--- code 0, solvable: place 0, the rest true; the strips are counts by equation, tops by unknown, partner by equation, equations in solving order,
--- and the block number of each place in that order; bytes behind the strips are not written
-pub record Solved (n : ℕ) (edge : Rel) (ord : ℕ → ℕ → ℕ) (rank : ℕ) (before : List ℕ) (number : ℕ) (after : List ℕ) : Type 0 where
+-- the answer to a solvable model of n equations: counts by equation, tops by unknown, partner by equation, equations in solving order,
+-- the block number of each place in that order, and how many blocks there are
+pub record Worked (n : ℕ) (edge : Rel) (ord : ℕ → ℕ → ℕ) : Type 0 where
   pub counts : List ℕ
   pub tops : List ℕ
   pub partner : List ℕ
@@ -83,17 +83,33 @@ pub record Solved (n : ℕ) (edge : Rel) (ord : ℕ → ℕ → ℕ) (rank : ℕ
   pub least : Least n n edge ord (numberAt counts) (numberAt tops)
   pub first : First n n (leading edge ord (numberAt counts) (numberAt tops)) (numberAt partner)
   pub placed : Placed n (needsAt n (leading edge ord (numberAt counts) (numberAt tops)) (numberAt partner)) (numberAt order) (numberAt block) blocks
-  pub says : number ≡ packed 0 0 rank (indexOf n (numberAt counts)) (freedomOf n n (numberAt counts) (numberAt tops)) blocks
-  pub holds : after ≡ strips counts tops (map suc partner) (map suc order) block ++ drop answerBytes before
 
--- code 10, singular: rank true, others 0; the strips are surplus ascending, unfixed ascending, three of 255; bytes behind the strips are not written
-pub record Singular (E U : ℕ) (edge : Rel) (rank : ℕ) (before : List ℕ) (number : ℕ) (after : List ℕ) : Type 0 where
+-- its index and its freedom
+abbrev pub workedIndex : {n : ℕ} {edge : Rel} {ord : ℕ → ℕ → ℕ} → Worked n edge ord → ℕ
+workedIndex {n} w = indexOf n (numberAt (w .counts))
+
+abbrev pub workedFreedom : {n : ℕ} {edge : Rel} {ord : ℕ → ℕ → ℕ} → Worked n edge ord → ℕ
+workedFreedom {n} w = freedomOf n n (numberAt (w .counts)) (numberAt (w .tops))
+
+-- code 0, solvable: place 0, the rest true; the five strips are the answer's lists; bytes behind the strips are not written
+pub record Solved (n : ℕ) (edge : Rel) (ord : ℕ → ℕ → ℕ) (rank : ℕ) (before : List ℕ) (number : ℕ) (after : List ℕ) : Type 0 where
+  pub worked : Worked n edge ord
+  pub says : number ≡ packed 0 0 rank (workedIndex worked) (workedFreedom worked) (worked .blocks)
+  pub holds : after
+      ≡ strips (worked .counts) (worked .tops) (map suc (worked .partner)) (map suc (worked .order)) (worked .block) ++ drop answerBytes before
+
+-- the two lists of a singular model: every surplus equation and every unfixed unknown, ascending
+pub record Lists (E U : ℕ) (edge : Rel) : Type 0 where
   pub surplus : List ℕ
   pub unfixed : List ℕ
   pub allSurplus : Listed E (Surplus E U edge) surplus
   pub allUnfixed : Listed U (Unfixed E U edge) unfixed
+
+-- code 10, singular: rank true, others 0; the strips are surplus, unfixed, three of 255; bytes behind the strips are not written
+pub record Singular (E U : ℕ) (edge : Rel) (rank : ℕ) (before : List ℕ) (number : ℕ) (after : List ℕ) : Type 0 where
+  pub lists : Lists E U edge
   pub says : number ≡ packed 10 0 rank 0 0 0
-  pub holds : after ≡ strips (map suc surplus) (map suc unfixed) [] [] [] ++ drop answerBytes before
+  pub holds : after ≡ strips (map suc (lists .surplus)) (map suc (lists .unfixed)) [] [] [] ++ drop answerBytes before
 
 -- solvable means E = U = rank; all else within the limits is singular
 pub record Verdict (E U : ℕ) (edge : Rel) (ord : ℕ → ℕ → ℕ) (before : List ℕ) (number : ℕ) (after : List ℕ) : Type 0 where

@@ -14,12 +14,12 @@ use Rattle.table.specs.Model.{limit, occursAt, orderAt}
 use Rattle.table.specs.declared.number.Equation.{Equation}
 use Rattle.pairing.specs.Pairing.{Full}
 use Rattle.pairing.specs.Holders.{held}
-use Rattle.counts.specs.Fit.{indexOf, freedomOf}
+use Rattle.counts.specs.Fit.{freedomOf}
 use Rattle.counts.specs.Work.{topOrder, leadingRows, Small, Pairable, Chosen}
 use Rattle.laws.specs.Tab.{numberAt}
 use Rattle.counts.proofs.Over.{over-full}
 use Rattle.counts.proofs.Fit.{one-count, one-top, freedom-low, freedom-high}
-use Rattle.counts.proofs.Gap.{count-bound, index-bound, top-bound}
+use Rattle.counts.proofs.Gap.{count-bound}
 use Rattle.counts.proofs.Work.{orders, rows-lead}
 
 -- two answers to one table have the same counts and tops; which full pairing comes with them is left open
@@ -37,15 +37,6 @@ module _ (n : ℕ) (t : List (List ℕ)) (c d c′ d′ : List ℕ) (h h′ : Li
 module _ (n : ℕ) (t : List (List ℕ)) (can : Pairable n t) (c d : List ℕ) (h : List Equation) (a : Chosen n t c d h) where
   pub counts-bound : (e : ℕ) → e < n → numberAt c e ≤ (n - 1) * topOrder
   counts-bound = count-bound n n topOrder (occursAt t) (orderAt t) (orders n t can) (numberAt c) (numberAt d) (a .least)
-
-  pub tops-bound : (u : ℕ) → u < n → numberAt d u ≤ limit * topOrder
-  tops-bound u b =
-      let k = top-bound n topOrder (occursAt t) (orderAt t) (orders n t can) (numberAt c) (numberAt d) (a .least) u b in
-      let w = can .bounded .equations in
-      omega arith
-
-  pub index-fits : indexOf n (numberAt c) ≤ (n - 1) * topOrder
-  index-fits = index-bound n n topOrder (occursAt t) (orderAt t) (orders n t can) (numberAt c) (numberAt d) (a .least)
 
   pub freedom-fits : freedomOf n n (numberAt c) (numberAt d) ≤ n * topOrder
   freedom-fits = freedom-high n topOrder (occursAt t) (orderAt t) (numberAt c) (numberAt d) (a .least .fit) (orders n t can)

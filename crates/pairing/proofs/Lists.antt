@@ -10,7 +10,7 @@ use native.Mathlib.Nat.{le-antisymm}
 use lib.Dec.{eqb, ltb, leb}
 use lib.ListN.{length, getD, length-append, List·getD-append}
 use lib.Seq.{ext-getD, getD-append-seam}
-use borrow.Author.Tests.{eqb-true, ltb-true}
+use borrow.Author.Tests.{eqb-true, ltb-true, leb-true, leb-false}
 use Rattle.laws.specs.Count.{count}
 use Rattle.laws.proofs.Tests.{test, tests, either, given, clash}
 use Rattle.pairing.specs.Pairing.{Listed}
@@ -119,3 +119,12 @@ members-length (suc n) p = let r = members-length n p in test (p n)
 
 pub members-within : (n : ℕ) (p : ℕ → Bool) → length (members n p) ≤ n
 members-within n p = rw (members-length n p) (count-within n p)
+
+-- a list of members is no longer than the bound: it ascends
+listed-climbs : {n : ℕ} {P : ℕ → Type 0} {l : List ℕ} → Listed n P l → (i : ℕ) → i < length l → i ≤ getD l i 0
+listed-climbs k zero h = omega arith
+listed-climbs k (suc i) h = let a = listed-climbs k i (omega arith) in let b = k .ascends i (suc i) (omega arith) h in omega arith
+
+pub listed-short : {n : ℕ} {P : ℕ → Type 0} {l : List ℕ} → Listed n P l → length l ≤ n
+listed-short {n} {l = l} k = test (leb (length l) n) (λ t. leb-true (length l) n t)
+    (λ t. let h = leb-false (length l) n t in let a = listed-climbs k n h in let b = k .only n h .0 in absurd (omega arith))

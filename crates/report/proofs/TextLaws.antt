@@ -32,7 +32,7 @@ pub joined-short : (split : ℕ → ℕ) (l : List ℕ) → length (joined split
 joined-short split [] = omega arith
 joined-short split (x ∷ l) = rw (length-append (dec x) (further split l)) (omega (arith, dec-short x, further-short split l))
 
-none-short : (l : List ℕ) → length (orNone l) ≤ 5 * length l + 4
+pub none-short : (l : List ℕ) → length (orNone l) ≤ 5 * length l + 4
 none-short [] = omega arith
 none-short (x ∷ l) = omega (arith, joined-short (λ _. 44) (x ∷ l))
 

@@ -4,23 +4,22 @@ use mathlib.Core.Bool.{true, false, _&&_}
 use mathlib.Core.List.{List, [], _∷_, _++_, map, append-assoc}
 use Prim.Native.Nat.{ℕ, zero, suc, _+_, _-_, _*_, _≤_, _<_}
 use native.Mathlib.Omega.{arith}
-use lib.Dec.{leb, ltb, eqb}
+use lib.Dec.{ltb, eqb}
 use lib.ListN.{length, getD, take, drop, replicate, length-append, length-replicate, length-map}
 use lib.Seq.{take-at, drop-append-add}
-use borrow.Author.Tests.{eq-eqb, ne-eqb, le-ltb, leb-true, leb-false, eqb-true}
+use borrow.Author.Tests.{eq-eqb, ne-eqb, le-ltb, eqb-true}
 use Rattle.laws.proofs.Tab.{is-tab, copies-at}
 use Rattle.laws.proofs.Tests.{test, clash, and-left, and-right, and-both}
 use Rattle.table.specs.Model.{limit, wellSized, firstAbove, occursAt, orderAt, rowsOf}
 use Rattle.table.proofs.Model.{sized}
-use Rattle.pairing.specs.Pairing.{Rel, Listed}
+use Rattle.pairing.specs.Pairing.{Listed}
 use Rattle.pairing.proofs.Sizes.{rank-one}
+use Rattle.pairing.proofs.Lists.{listed-short}
 use Rattle.pairing.proofs.Solve.{solvable-rank}
-use Rattle.counts.specs.Fit.{indexOf, freedomOf}
-use Rattle.laws.specs.Tab.{numberAt}
 use Rattle.card.specs.Card as Read
 use Rattle.card.specs.Card.{good}
 use Rattle.card.proofs.Readable.{good-card}
-use Rattle.analysis.specs.Outcome.{unused, strip, strips, answerBytes, refusal, Singular, Solved, Reply}
+use Rattle.analysis.specs.Outcome.{unused, strip, strips, answerBytes, refusal, Singular, Solved, Reply, workedIndex, workedFreedom}
 use Rattle.analysis.proofs.Packed.{Six, reads-back}
 use Rattle.analysis.proofs.Strips.{strip-length}
 use Rattle.report.specs.Printed.{singularLines, solvableLines, PrintsModel, solvable, singular}
@@ -92,79 +91,63 @@ module _ (a b c d e rest : List ℕ) where
       ∙ past c (strip d ++ (strip e ++ rest)) limit
       ∙ past d (strip e ++ rest) 0
 
--- ---- lists of members are short
-
-module _ {n : ℕ} {P : ℕ → Type 0} {l : List ℕ} (k : Listed n P l) where
-  climbs : (i : ℕ) → i < length l → i ≤ getD l i 0
-  climbs zero h = omega arith
-  climbs (suc i) h = let a = climbs i (omega arith) in let b = k .ascends i (suc i) (omega arith) h in omega arith
-
-  listed-short : length l ≤ n
-  listed-short = test (leb (length l) n) (λ t. leb-true (length l) n t)
-      (λ t. let h = leb-false (length l) n t in let a = climbs n h in let b = k .only n h .0 in absurd (omega arith))
-
-  -- a strip of a list of members, read to the first unused place
-  used-members : (rest : List ℕ) → n ≤ limit → usedIn (take limit (strip (map suc l) ++ rest)) ≡ map suc l
-  used-members rest h =
-      ap usedIn
-      (take-at (strip (map suc l)) rest limit (strip-length (map suc l))
-      ∙ strip-is (map suc l) (rw (length-map l suc) (omega (arith, listed-short))))
-      ∙ used-list l (limit - length (map suc l)) (λ i b. let c = k .only i b .0 in omega arith)
+-- a strip of a list of members, read to the first unused place
+used-members : {n : ℕ} {P : ℕ → Type 0} {l : List ℕ} → Listed n P l → (rest : List ℕ) → n ≤ limit → usedIn (take limit (strip (map suc l) ++ rest)) ≡ map suc l
+used-members {l = l} k rest h =
+    ap usedIn
+    (take-at (strip (map suc l)) rest limit (strip-length (map suc l))
+    ∙ strip-is (map suc l) (rw (length-map l suc) (omega (arith, listed-short k))))
+    ∙ used-list l (limit - length (map suc l)) (λ i b. let c = k .only i b .0 in omega arith)
 
 -- ---- the two verdicts
 
--- a solvable model's outcome, and the six numbers that its number holds
-record Whole (n : ℕ) (edge : Rel) (ord : ℕ → ℕ → ℕ) (rank : ℕ) (before : List ℕ) (number : ℕ) (after : List ℕ) : Type 0 where
-  solved : Solved n edge ord rank before number after
-  six : Six number 0 0 rank (indexOf n (numberAt (solved .counts))) (freedomOf n n (numberAt (solved .counts)) (numberAt (solved .tops))) (solved .blocks)
-
 module _ (name : List ℕ) (E U : ℕ) (t : List ℕ) {before after : List ℕ} {rank number : ℕ} (w : wellSized E U t ≡ true) where
   singular-says : (s : Singular E U (occursAt (rowsOf E U t)) rank before number after) → Six number 10 0 rank 0 0 0
-      → verdictText name E number after ≡ singularLines name rank (map suc (s .surplus)) (map suc (s .unfixed))
+      → verdictText name E number after ≡ singularLines name rank (map suc (s .lists .surplus)) (map suc (s .lists .unfixed))
   unfolding singularText answer
   singular-says s x =
       let m = sized E U t w in
       let rest = drop answerBytes before in
-      let a = map suc (s .surplus) in
-      let b = map suc (s .unfixed) in
+      let a = map suc (s .lists .surplus) in
+      let b = map suc (s .lists .unfixed) in
       let first : usedIn (stripIn 0 limit after) ≡ a
       = ap (λ x. usedIn (take limit x)) (s .holds ∙ in-row a b [] [] [] rest)
-      ∙ used-members (s .allSurplus) (strip b ++ (strip [] ++ (strip [] ++ (strip [] ++ rest)))) (m .equations .high) in
+      ∙ used-members (s .lists .allSurplus) (strip b ++ (strip [] ++ (strip [] ++ (strip [] ++ rest)))) (m .equations .high) in
       let second : usedIn (stripIn 1 limit after) ≡ b
       = ap (λ x. usedIn (take limit (drop (1 * limit) x))) (s .holds) ∙ ap (λ x. usedIn (take limit x)) (from-second a b [] [] [] rest)
-      ∙ used-members (s .allUnfixed) (strip [] ++ (strip [] ++ (strip [] ++ rest))) (m .unknowns .high) in
+      ∙ used-members (s .lists .allUnfixed) (strip [] ++ (strip [] ++ (strip [] ++ rest))) (m .unknowns .high) in
       rw (x .isCode, x .isRank, first, second)
 
-  solvable-says : (k : Whole E (occursAt (rowsOf E U t)) (orderAt (rowsOf E U t)) rank before number after)
+  solvable-says : (s : Solved E (occursAt (rowsOf E U t)) (orderAt (rowsOf E U t)) rank before number after)
+      → Six number 0 0 rank (workedIndex (s .worked)) (workedFreedom (s .worked)) (s .worked .blocks)
       → verdictText name E number after
-      ≡ solvableLines name (indexOf E (numberAt (k .solved .counts))) (freedomOf E E (numberAt (k .solved .counts)) (numberAt (k .solved .tops)))
-      (k .solved .counts) (k .solved .tops) (map suc (k .solved .partner)) (map suc (k .solved .order)) (k .solved .block)
+      ≡ solvableLines name (workedIndex (s .worked)) (workedFreedom (s .worked)) (s .worked .counts) (s .worked .tops) (map suc (s .worked .partner))
+      (map suc (s .worked .order)) (s .worked .block)
   unfolding solvableText answer
-  solvable-says k =
-      let s = k .solved in
-      let x = k .six in
+  solvable-says s x =
+      let k = s .worked in
       let m = sized E U t w in
       let high = m .equations .high in
       let rest = drop answerBytes before in
-      let a = s .counts in
-      let b = s .tops in
-      let c = map suc (s .partner) in
-      let d = map suc (s .order) in
-      let g = s .block in
+      let a = k .counts in
+      let b = k .tops in
+      let c = map suc (k .partner) in
+      let d = map suc (k .order) in
+      let g = k .block in
       let first : stripIn 0 E after ≡ a
       = ap (take E) (s .holds ∙ in-row a b c d g rest)
-      ∙ strip-front a (strip b ++ (strip c ++ (strip d ++ (strip g ++ rest)))) E (s .sizes .0) high in
+      ∙ strip-front a (strip b ++ (strip c ++ (strip d ++ (strip g ++ rest)))) E (k .sizes .0) high in
       let second : stripIn 1 E after ≡ b
       = ap (λ x. take E (drop (1 * limit) x)) (s .holds) ∙ ap (take E) (from-second a b c d g rest)
-      ∙ strip-front b (strip c ++ (strip d ++ (strip g ++ rest))) E (s .sizes .1) high in
+      ∙ strip-front b (strip c ++ (strip d ++ (strip g ++ rest))) E (k .sizes .1) high in
       let third : stripIn 2 E after ≡ c
       = ap (λ x. take E (drop (2 * limit) x)) (s .holds) ∙ ap (take E) (from-third a b c d g rest)
-      ∙ strip-front c (strip d ++ (strip g ++ rest)) E (length-map (s .partner) suc ∙ s .sizes .2) high in
+      ∙ strip-front c (strip d ++ (strip g ++ rest)) E (length-map (k .partner) suc ∙ k .sizes .2) high in
       let fourth : stripIn 3 E after ≡ d
       = ap (λ x. take E (drop (3 * limit) x)) (s .holds) ∙ ap (take E) (from-fourth a b c d g rest)
-      ∙ strip-front d (strip g ++ rest) E (length-map (s .order) suc ∙ s .sizes .3) high in
+      ∙ strip-front d (strip g ++ rest) E (length-map (k .order) suc ∙ k .sizes .3) high in
       let fifth : stripIn 4 E after ≡ g
-      = ap (λ x. take E (drop (4 * limit) x)) (s .holds) ∙ ap (take E) (from-fifth a b c d g rest) ∙ strip-front g rest E (s .sizes .4) high in
+      = ap (λ x. take E (drop (4 * limit) x)) (s .holds) ∙ ap (take E) (from-fifth a b c d g rest) ∙ strip-front g rest E (k .sizes .4) high in
       rw (x .isCode, x .isIndex, x .isFreedom, first, second, third, fourth, fifth)
 
 -- ---- what is printed for a good card
@@ -196,47 +179,15 @@ module _ (input : List ℕ) {name t : List ℕ} {E U : ℕ} (q : Read.judged inp
       (λ b.
       let e = eqb-true E U (and-left (eqb E U) (eqb (v .rank) E) b) in
       let r = eqb-true (v .rank) E (and-right (eqb E U) (eqb (v .rank) E) b) in
-      let w : Whole E (occursAt (rowsOf E U t)) (orderAt (rowsOf E U t)) (v .rank) (replicate answerBytes 0) (a .number) (a .answer)
-      = record { solved = v .solvable e r; six = reads-back (a .reply) .solvable not-refused e r } in
-      let k = rw r at w in
+      let s = v .solvable e r in
       solvable (solvable-rank .1 (e, rw r at (v .ranked)))
-      (record { number = a .number; answer = a .answer; solved = k .solved; says = a .says ∙ solvable-says name E U t well-sized k }))
+      (record { worked = s .worked; says = a .says ∙ solvable-says name E U t well-sized s (reads-back (a .reply) .solvable not-refused e r) }))
       (λ b.
       let n : E ≡ U → v .rank ≡ E → ⊥ = λ e r. clash (and-both (eq-eqb E U e) (eq-eqb (v .rank) E r)) b in
       singular (λ s. n (solvable-rank .0 s .0) (rank-one (v .ranked) (solvable-rank .0 s .1)))
       (record {
         rank = v .rank;
         ranked = v .ranked;
-        number = a .number;
-        answer = a .answer;
-        lists = v .singular n;
+        lists = v .singular n .lists;
         says = a .says ∙ singular-says name E U t well-sized (v .singular n) (reads-back (a .reply) .singular not-refused n);
       }))
-
-  -- and what is printed of the model is that text
-  pub prints-answered : {text : List ℕ} → PrintsModel name E U (occursAt (rowsOf E U t)) (orderAt (rowsOf E U t)) text → Answered name E U t text
-  prints-answered (solvable s p) =
-      let (e, k) = solvable-rank .0 s in
-      let reply : Reply E U t (replicate answerBytes 0) (p .number) (p .answer) = record {
-        refused = λ n. absurd (n not-refused);
-        verdict = λ _. record { rank = E; ranked = k; solvable = λ _ _. p .solved; singular = λ n. absurd (n e refl) };
-      } in
-      let six = reads-back reply .solvable not-refused e refl in
-      record {
-        number = p .number;
-        answer = p .answer;
-        reply = reply;
-        says = p .says ∙ sym (solvable-says name E U t well-sized (record { solved = p .solved; six = six }));
-      }
-  prints-answered (singular n p) =
-      let k : E ≡ U → p .rank ≡ E → ⊥ = λ e r. n (solvable-rank .1 (e, rw r at (p .ranked))) in
-      let reply : Reply E U t (replicate answerBytes 0) (p .number) (p .answer) = record {
-        refused = λ n. absurd (n not-refused);
-        verdict = λ _. record { rank = p .rank; ranked = p .ranked; solvable = λ e r. absurd (k e r); singular = λ _. p .lists };
-      } in
-      record {
-        number = p .number;
-        answer = p .answer;
-        reply = reply;
-        says = p .says ∙ sym (singular-says name E U t well-sized (p .lists) (reads-back reply .singular not-refused k));
-      }

@@ -4,15 +4,14 @@ use mathlib.Core.List.{List, [], _∷_, _++_, map}
 use Prim.Native.Nat.{ℕ, suc, _/_, _<_, _≤_}
 use Prim.Native.String.{String}
 use lib.Dec.{leb, ltb, eqb}
-use lib.ListN.{length, getD, drop, replicate}
-use Rattle.laws.specs.Tab.{pick, numberAt}
+use lib.ListN.{length, getD, drop}
+use Rattle.laws.specs.Tab.{pick}
 use Rattle.laws.specs.Text.{bytes}
 use Rattle.table.specs.Model.{occursAt, orderAt, rowsOf}
 use Rattle.pairing.specs.Pairing.{Rel, Rank, Solvable}
-use Rattle.counts.specs.Fit.{indexOf, freedomOf}
 use Rattle.card.specs.Text.{LF, comma, digitOf, dec}
 use Rattle.card.specs.Card.{Judged, refused, good, judged}
-use Rattle.analysis.specs.Outcome.{answerBytes, Solved, Singular}
+use Rattle.analysis.specs.Outcome.{Worked, workedIndex, workedFreedom, Lists}
 
 -- ---- Lines and lists
 
@@ -82,24 +81,19 @@ refusedText number place = field "refused=" (dec number) ++ field "place=" (plac
 
 -- ---- What is printed for a good card: what holds of its model
 -- The lists have equations and unknowns by their places, counted from 0; the printed numbers are one more.
--- Number and answer are what the analysis hands back for the same table, into a buffer of five strips.
 
--- a solvable model of n equations: its least counts, their tops, the first partners and the placing of its blocks
+-- a solvable model of n equations: its answer
 pub record PrintsSolvable (name : List ℕ) (n : ℕ) (edge : Rel) (ord : ℕ → ℕ → ℕ) (text : List ℕ) : Type 0 where
-  pub number : ℕ
-  pub answer : List ℕ
-  pub solved : Solved n edge ord n (replicate answerBytes 0) number answer
+  pub worked : Worked n edge ord
   pub says : text
-      ≡ solvableLines name (indexOf n (numberAt (solved .counts))) (freedomOf n n (numberAt (solved .counts)) (numberAt (solved .tops)))
-      (solved .counts) (solved .tops) (map suc (solved .partner)) (map suc (solved .order)) (solved .block)
+      ≡ solvableLines name (workedIndex worked) (workedFreedom worked) (worked .counts) (worked .tops) (map suc (worked .partner)) (map suc (worked .order))
+      (worked .block)
 
 -- any other: the size of a largest pairing, every surplus equation and every unfixed unknown
 pub record PrintsSingular (name : List ℕ) (E U : ℕ) (edge : Rel) (text : List ℕ) : Type 0 where
   pub rank : ℕ
   pub ranked : Rank E U edge rank
-  pub number : ℕ
-  pub answer : List ℕ
-  pub lists : Singular E U edge rank (replicate answerBytes 0) number answer
+  pub lists : Lists E U edge
   pub says : text ≡ singularLines name rank (map suc (lists .surplus)) (map suc (lists .unfixed))
 
 -- "called solvable exactly if some pairing takes in all equations and all unknowns"
