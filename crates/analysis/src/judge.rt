@@ -1,5 +1,5 @@
 // What is refused, before anything is written.
-use table::LIMIT;
+use crate::strip::ANSWER;
 use table::judge::first_above;
 use table::judge::in_limits;
 ghost use mathlib.Core.Path.{_≡_};
@@ -15,7 +15,7 @@ pub fn first_refusal(equations: usize, unknowns: usize, table: &[u8], room: usiz
     if table.len() != equations * unknowns {
         return 2;
     }
-    if room < 5 * LIMIT {
+    if room < ANSWER {
         return 3;
     }
     if first_above(table) < table.len() {

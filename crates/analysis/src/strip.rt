@@ -12,6 +12,9 @@ ghost use Rattle.analysis.specs.Outcome.{strip};
 // What an unused place of a strip holds.
 pub const UNUSED: u8 = 255;
 
+// The bytes of an answer: five strips.
+pub const ANSWER: usize = 5 * LIMIT;
+
 // A strip with nothing in it.
 pub fn unused(stretch: &mut [u8])
     requires { ⌜ length (now stretch) ≡ limit ⌝ }

@@ -1,6 +1,7 @@
 // Calls the entry of the analysis and prints the six numbers and the answer buffer: for document 01's models, at its limits, and for each refusal.
 // The buffer holds 7 before each call, so that what is not written shows. `stdout` has what must come out, by an independent program.
 use analysis::mudorder_analyse;
+use analysis::strip::ANSWER;
 use shown::printing::print;
 use shown::printing::print_figure;
 use shown::printing::print_line;
@@ -10,11 +11,8 @@ use table::LIMIT;
 ghost use Prim.Native.Nat.{_+_, _*_, _≤_};
 ghost use Rattle.table.specs.Model.{limit};
 
-// The bytes of the five strips.
-const STRIPS: usize = 5 * LIMIT;
-
 // A buffer that is longer than the answer.
-const ROOM: usize = STRIPS + 8;
+const ROOM: usize = ANSWER + 8;
 
 // The six numbers, and what stands above them.
 fn print_reply(number: u64) {
@@ -34,8 +32,8 @@ fn print_answer(answer: [u8; ROOM]) {
     print_line(b"", b" ", &answer[LIMIT..2 * LIMIT]);
     print_line(b"", b" ", &answer[2 * LIMIT..3 * LIMIT]);
     print_line(b"", b" ", &answer[3 * LIMIT..4 * LIMIT]);
-    print_line(b"", b" ", &answer[4 * LIMIT..STRIPS]);
-    print_line(b"", b" ", &answer[STRIPS..ROOM]);
+    print_line(b"", b" ", &answer[4 * LIMIT..ANSWER]);
+    print_line(b"", b" ", &answer[ANSWER..ROOM]);
 }
 
 // A model, with a buffer that is longer than the answer.
@@ -75,7 +73,7 @@ fn limits() {
     show(b"32 full", LIMIT, LIMIT, &[4; CELLS]);
     show(b"32 by 1", LIMIT, 1, &[1; LIMIT]);
     show(b"1 by 32", 1, LIMIT, &[4; LIMIT]);
-    show_room(b"160 bytes", 1, 1, &[4], STRIPS);
+    show_room(b"160 bytes", 1, 1, &[4], ANSWER);
 }
 
 fn refusals() {
@@ -92,13 +90,13 @@ fn refusals() {
     );
     show(b"short", 3, 3, &[2, 0, 1, 0, 1, 1, 1, 0]);
     show(b"long", 3, 3, &[2, 0, 1, 0, 1, 1, 1, 0, 0, 0]);
-    show_room(b"159 bytes", 1, 1, &[4], STRIPS - 1);
+    show_room(b"159 bytes", 1, 1, &[4], ANSWER - 1);
     show_room(b"no bytes", 1, 1, &[4], 0);
     show(b"code 5", 2, 2, &[1, 5, 1, 255]);
     show(b"code 5 last", 2, 2, &[4, 4, 4, 5]);
     show_room(b"1 before 2, 3, 4", LIMIT + 1, 1, &[5], 0);
     show_room(b"2 before 3, 4", 2, 1, &[5], 0);
-    show_room(b"3 before 4", 1, 1, &[5], STRIPS - 1);
+    show_room(b"3 before 4", 1, 1, &[5], ANSWER - 1);
 }
 
 fn main() {

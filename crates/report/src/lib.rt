@@ -6,10 +6,10 @@ use crate::text::put_refused;
 use crate::text::put_singular;
 use crate::text::put_solvable;
 use analysis::mudorder_analyse;
+use analysis::strip::ANSWER;
 use card::name_of;
 use card::read;
 use table::CELLS;
-use table::LIMIT;
 ghost use mathlib.Core.Path.{_≡_};
 ghost use Prim.Native.Nat.{_*_, _≤_};
 ghost use lib.ListN.{length};
@@ -23,9 +23,6 @@ pub const INPUT_LIMIT: usize = 16384;
 
 // No text is longer.
 pub const TEXT_LIMIT: usize = 1024;
-
-// The five strips of an answer.
-const ANSWER: usize = 5 * LIMIT;
 
 // What a card comes to: a refusal, or with refused 0 what the analysis handed back.
 pub struct Findings {

@@ -25,12 +25,6 @@ returns-2 c =
     let a = t .before .before .before .args in
     is-two (a .equations) (a .unknowns) (a .table .now) (a .room) (is-in (t .before .in-limits .ensures) (t .if1 .left)) (c .if2 .taken)
 
-mul-if3 : tie.Need-mul-if3
-mul-if3 c =
-    let t = c .before in
-    let a = t .before .before .before .args in
-    omega (arith, product-fits (a .equations) (a .unknowns) (is-in (t .before .in-limits .ensures) (t .if1 .left)))
-
 returns-3 : tie.Need-returns-3
 returns-3 c =
     let t = c .before .before in
@@ -62,7 +56,6 @@ first-refusal-spec =
     returns
     mul-if2
     returns-2
-    mul-if3
     returns-3
     first-above-requires
     returns-4
