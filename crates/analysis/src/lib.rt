@@ -1,4 +1,6 @@
 // The analysis: the verdict on a model, the five strips, and the entry that the screen calls.
+#![tactic(auto)]
+
 pub mod judge;
 pub mod number;
 pub mod singular;

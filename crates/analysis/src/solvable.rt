@@ -17,7 +17,7 @@ use table::LIMIT;
 use table::number::{Equation, Unknown};
 
 // Counts by equation, tops by unknown, partners by equation, the equations in solving order with the block number of each place, and three figures.
-#[derive(Drop)]
+#[derive(Clone, Copy)]
 pub struct Solution {
     pub counts: [u8; LIMIT],
     pub tops: [u8; LIMIT],

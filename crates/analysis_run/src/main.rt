@@ -1,5 +1,7 @@
 // Calls the entry of the analysis and prints the six numbers and the answer buffer: for document 01's models, at its limits, and for each refusal.
 // The buffer holds 7 before each call, so that what is not written shows. `stdout` has what must come out, by an independent program.
+#![tactic(auto)]
+
 ghost use Rattle.std.specs.Prelude.{◌+◌, ◌*◌, ◌≤◌};
 ghost use Rattle.table.specs.Model.{limit};
 

@@ -8,7 +8,7 @@ ghost use Rattle.blocks.specs.Steps.{both, keeps_at, waits_at, Lowest, renumbere
 use table::LIMIT;
 
 // For each equation the number of its block, and how many blocks there are.
-#[derive(Drop)]
+#[derive(Clone, Copy)]
 pub struct BlockNumbers {
     pub number: [u8; LIMIT],
     pub blocks: u8,

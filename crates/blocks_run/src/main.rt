@@ -1,6 +1,8 @@
 // Prints partners and blocks for document 01's solvable models, for 002's 6 × 6 example and its two 7 × 7 examples, and for two models of full size:
 // from the table through counts, leading occurrences and partners to the solving order. `stdout` has what must come out, from document 01 and an
 // independent computation.
+#![tactic(auto)]
+
 ghost use Rattle.std.specs.Prelude.{◌≤◌};
 ghost use Rattle.table.specs.Model.{limit};
 ghost use Rattle.counts.specs.Work.{Pairable};

@@ -5,14 +5,14 @@ ghost use Rattle.card.specs.Entry.{name_byte, good_name, whole_of, value_of, com
 use crate::text::{Number, digit, front_number, letter, starts};
 
 // The value of a line of a key and one number.
-#[derive(Drop)]
+#[derive(Clone, Copy)]
 pub enum Value {
     Other,
     Says(usize),
 }
 
 // A line after the unknowns line.
-#[derive(Drop)]
+#[derive(Clone, Copy)]
 pub enum Entry {
     Shape,
     Occurs {

@@ -9,21 +9,21 @@ use crate::text::{Line, line_at, starts};
 use table::judge::counted;
 
 // The rig line: refused, or where its LF stands.
-#[derive(Drop)]
+#[derive(Clone, Copy)]
 pub enum Rig {
     Unnamed(u8),
     Named(usize),
 }
 
 // A count line: refused, or its number and where the next line starts.
-#[derive(Drop)]
+#[derive(Clone, Copy)]
 pub enum Count {
     Uncounted(u8),
     Counts { number: usize, next: usize },
 }
 
 // The first three lines: refused, or what they say and where the next line starts.
-#[derive(Drop)]
+#[derive(Clone, Copy)]
 pub enum Head {
     Faulty {
         number: u8,

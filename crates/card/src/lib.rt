@@ -1,4 +1,6 @@
 // The card: read, written, and asked for its name.
+#![tactic(auto)]
+
 mod entry;
 mod judge;
 mod lay;
@@ -19,7 +21,7 @@ use crate::list::read_list;
 use table::judge::{first_above, in_limits, well_sized};
 
 // What the reader hands back.
-#[derive(Drop)]
+#[derive(Clone, Copy)]
 pub struct Reading {
     pub number: u8,
     pub place: usize,
@@ -28,7 +30,7 @@ pub struct Reading {
 }
 
 // What the writer hands back.
-#[derive(Drop)]
+#[derive(Clone, Copy)]
 pub struct Writing {
     pub number: u8,
     pub place: usize,

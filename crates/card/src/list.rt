@@ -12,14 +12,14 @@ use table::CELLS;
 use table::number::{Equation, Unknown};
 
 // The pair of an occurs line; 0, 0 where no line stands before.
-#[derive(Drop)]
+#[derive(Clone, Copy)]
 pub struct Pair {
     pub equation: Equation,
     pub unknown: Unknown,
 }
 
 // A line after the unknowns line: refused, or its pair and code, or the end line's number; and where the next line starts.
-#[derive(Drop)]
+#[derive(Clone, Copy)]
 pub enum Turn {
     Refused(u8),
     Next { pair: Pair, code: u8, next: usize },
@@ -27,11 +27,11 @@ pub enum Turn {
 }
 
 // What the end line comes to: a number and a place, 0 and 0 where the card is good.
-#[derive(Drop)]
+#[derive(Clone, Copy)]
 pub struct Ending(pub u8, pub usize);
 
 // What the lines come to: number 0 and the table collected from them, or a refusal.
-#[derive(Drop)]
+#[derive(Clone, Copy)]
 pub struct Collected {
     pub number: u8,
     pub place: usize,

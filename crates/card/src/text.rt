@@ -4,14 +4,14 @@ ghost use Rattle.card.specs.Text.{begins, is_letter, is_digit, number_of, lines_
 ghost use Rattle.card.specs.Steps.{end_of};
 
 // A number at the front of a text, and how many bytes it takes.
-#[derive(Drop)]
+#[derive(Clone, Copy)]
 pub enum Number {
     Missing,
     Is { value: usize, took: usize },
 }
 
 // Where a line's LF stands.
-#[derive(Drop)]
+#[derive(Clone, Copy)]
 pub enum Line {
     Unended,
     Ends(usize),

@@ -1,4 +1,6 @@
 // Runs `card` on the cases of standard input, which a '~' ends each, and on the writer's refusals. One line for each.
+#![tactic(auto)]
+
 ghost use Rattle.std.specs.Prelude.{◌≤◌, length};
 
 use card::{Reading, Writing};

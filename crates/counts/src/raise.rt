@@ -15,7 +15,7 @@ use table::LIMIT;
 use table::number::Equation;
 
 // How far the equations are paired in turn, who holds each unknown (an equation's number, or 0), and whom the next equation asked in vain.
-#[derive(Drop)]
+#[derive(Clone, Copy)]
 struct Progress {
     paired: usize,
     holders: [Equation; LIMIT],
@@ -23,7 +23,7 @@ struct Progress {
 }
 
 // The least counts by equation, the tops by unknown, and a full pairing over the leading occurrences, as holders.
-#[derive(Drop)]
+#[derive(Clone, Copy)]
 pub struct Choice {
     pub counts: [u8; LIMIT],
     pub tops: [u8; LIMIT],

@@ -1,5 +1,7 @@
 // Prints, for document 01's models, a chain whose counts go up in threes, and 002's pendulum: counts, tops, index, freedom, and the table of leading occurrences,
 // or the rank of a model that is singular. `stdout` has what must come out, from document 01 and an independent computation.
+#![tactic(auto)]
+
 ghost use Rattle.std.specs.Prelude.{◌≤◌};
 ghost use Rattle.table.specs.Model.{limit};
 ghost use Rattle.counts.specs.Work.{Pairable};

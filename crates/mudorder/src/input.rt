@@ -3,7 +3,7 @@ ghost use Rattle.std.specs.Prelude.{length};
 ghost use Rattle.mudorder.specs.Input.{Possible};
 
 // What became of the input.
-#[derive(Drop)]
+#[derive(Clone, Copy)]
 pub enum Input {
     // It ended behind so many bytes, and they stand in the buffer.
     Ended(usize),

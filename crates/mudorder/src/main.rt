@@ -1,6 +1,8 @@
 // Reads a card from standard input and writes its printed result to standard output; nothing else. Where standard input cannot be read to its end there
 // is no result: standard output stays empty, and standard error says why. Where standard output does not take the whole result, standard error says so.
 // A program of Rattle cannot choose its exit status: it is 0 in these cases too. A pipe that nobody reads any more ends the program by its signal.
+#![tactic(auto)]
+
 mod input;
 
 ghost use Rattle.std.specs.Prelude.{List, ◌++◌, ℕ, ◌≤◌, ◌<◌, length};

@@ -13,7 +13,7 @@ use table::LIMIT;
 use table::number::{Equation, Unknown};
 use table::rows::occurs;
 
-#[derive(Drop)]
+#[derive(Clone, Copy)]
 struct Attempt {
     done: bool,
     holders: [Equation; LIMIT],

@@ -13,14 +13,14 @@ use table::LIMIT;
 use table::number::{Equation, Unknown};
 use table::rows::transposed;
 
-#[derive(Drop)]
+#[derive(Clone, Copy)]
 struct Pairs {
     holders: [Equation; LIMIT],
     // The equations that some largest pairing leaves over.
     over: [bool; LIMIT],
 }
 
-#[derive(Drop)]
+#[derive(Clone, Copy)]
 pub struct Left {
     pub rank: u8,
     pub surplus: [bool; LIMIT],

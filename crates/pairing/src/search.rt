@@ -9,7 +9,7 @@ use table::LIMIT;
 use table::number::{Equation, Unknown};
 use table::rows::occurs;
 
-#[derive(Drop)]
+#[derive(Clone, Copy)]
 pub struct Answer {
     // The unknown that the asker got, or 0.
     pub got: Unknown,

@@ -1,5 +1,7 @@
 // Prints rank, surplus and unfixed for document 01's singular models and for tables with empty rows and columns, with more equations than
 // unknowns and the other way round, and of full size. `stdout` has what must come out, from document 01 and an independent computation.
+#![tactic(auto)]
+
 ghost use Rattle.std.specs.Prelude.{◌≤◌};
 ghost use Rattle.table.specs.Model.{limit};
 

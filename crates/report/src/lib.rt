@@ -1,4 +1,6 @@
 // The printed result: the bytes that the program writes for the bytes of a card.
+#![tactic(auto)]
+
 pub mod list;
 pub mod text;
 
@@ -21,7 +23,7 @@ pub const INPUT_LIMIT: usize = 16384;
 pub const TEXT_LIMIT: usize = 1024;
 
 // What a card comes to: a refusal, or with refused 0 what the analysis handed back.
-#[derive(Drop)]
+#[derive(Clone, Copy)]
 pub struct Findings {
     pub refused: u8,
     pub place: usize,

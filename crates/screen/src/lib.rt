@@ -1,5 +1,7 @@
 // The library that the screen links: the entries in the C calling form, where each slice is a pointer and a length. None asks anything of its caller,
 // and each always returns. Several numbers come back as one.
+#![tactic(auto)]
+
 ghost use Rattle.std.specs.Prelude.{◌≡◌, ◌≤◌};
 ghost use Rattle.analysis.specs.Outcome.{Reply};
 ghost use Rattle.report.specs.Printed.{Reported};

@@ -1,5 +1,7 @@
 // The table: which unknown occurs in which equation, at which derivative.
 // Equation and unknown numbers, the judging of what a caller lends, and the table held as rows of codes.
+#![tactic(auto)]
+
 pub mod judge;
 pub mod number;
 pub mod rows;

@@ -5,10 +5,10 @@ ghost use Rattle.table.specs.Number.{equation_number, unknown_number};
 
 use crate::LIMIT;
 
-#[derive(Drop)]
+#[derive(Clone, Copy)]
 pub struct Equation(pub u8);
 
-#[derive(Drop)]
+#[derive(Clone, Copy)]
 pub struct Unknown(pub u8);
 
 impl Equation {
