@@ -1,0 +1,14 @@
+-- `number::numbers` gives the lowest ready block the next number until no block is ready; then all stand.
+use native.Mathlib.Omega.{arith}
+use borrow.Author.Rules.{rules}
+use Rattle.table.specs.Model.{limit, occurs_at}
+use Rattle.laws.specs.Tab.{number_at}
+use Rattle.laws.proofs.Tab.{copies_at}
+use Rattle.blocks.proofs.Numbering.{unplaced, Counting, counting_start, counting_falls, counting_step, counting_end}
+use Rattle.blocks.proofs.number.numbers.Given as goal
+
+abbrev pub invariant-loop-e : goal.invariant-loop-e
+invariant-loop-e l = Counting l.equations (occurs_at l.reach) (number_at l.number) l.blocks l.e
+
+abbrev pub decreases-loop-e : goal.decreases-loop-e
+decreases-loop-e l = unplaced l.equations (number_at l.number)

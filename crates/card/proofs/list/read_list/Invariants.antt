@@ -1,0 +1,15 @@
+-- `card::list::read_list` meets its contract: the loop keeps `Collecting`, that the answer is that of the lines from here on with what was read so far.
+use mathlib.Core.Path.{sym, ◌∙◌}
+use Prim.Native.Nat.{◌-◌}
+use native.Mathlib.Omega.{arith}
+use borrow.Author.Rules.{rules}
+use lib.ListN.{length}
+use Rattle.card.proofs.ListLaws.{Collecting, collecting_start, collecting_next, collecting_refused, collecting_ended, turn_next}
+use Rattle.card.proofs.ListLaws.{Taking, Onward, place_fits, cell_fits}
+use Rattle.card.proofs.list.read_list.Given as goal
+
+abbrev pub invariant-loop-number : goal.invariant-loop-number
+invariant-loop-number l = Collecting l.card l.equations l.unknowns l.from l.table l.last l.count l.at
+
+abbrev pub decreases-loop-number : goal.decreases-loop-number
+decreases-loop-number l = length l.card - l.at

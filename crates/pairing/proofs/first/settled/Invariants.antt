@@ -1,0 +1,14 @@
+-- `first::settled` tries one unknown after the other: no lower one can be had. Some one can: what the equation holds.
+use mathlib.Core.Path.{◌≡◌}
+use Prim.Native.Nat.{suc, ◌-◌, ◌≤◌}
+use native.Mathlib.Omega.{arith}
+use borrow.Author.Rules.{rules}
+use Rattle.table.specs.Model.{occurs_at}
+use Rattle.pairing.proofs.Settling.{NoneBelow, none_next, settle_hit, settle_some}
+use Rattle.pairing.proofs.first.settled.Given as goal
+
+abbrev pub invariant-loop-u : goal.invariant-loop-u
+invariant-loop-u l = (l.u ≤ l.n) × NoneBelow l.n (occurs_at l.table) l.holders (l.e.0 - 1) l.u
+
+abbrev pub decreases-loop-u : goal.decreases-loop-u
+decreases-loop-u l = l.n - l.u

@@ -1,0 +1,9 @@
+-- `report::text::put_head` meets its contract: its parts, one behind another.
+use Rattle.card.proofs.PutLaws.{laid_then}
+use borrow.Author.Rules.{rules}
+use Rattle.report.proofs.text.put_head.Goals as goal
+
+pub returns : goal.returns
+returns c =
+    laid_then (laid_then c.put_all-start.ensures (laid_then c.put_all-end.ensures c.put-line.ensures)) (laid_then
+    c.put_all-second.ensures (laid_then c.put_all-last.ensures c.put.ensures))

@@ -1,0 +1,16 @@
+-- `judge::first_above` walks from the front: the first code above 4 of the whole is `at` places before that of what is left.
+use mathlib.Core.Path.{◌≡◌}
+use Prim.Native.Nat.{◌+◌, ◌-◌, ◌≤◌}
+use native.Mathlib.Numerals.{add-one}
+use native.Mathlib.Omega.{arith}
+use lib.ListN.{length, drop}
+use borrow.Author.Rules.{rules}
+use Rattle.table.specs.Model.{first_above}
+use Rattle.table.proofs.Model.{above_here, above_next, above_none}
+use Rattle.table.proofs.judge.first_above.Given as goal
+
+abbrev pub invariant-loop-at : goal.invariant-loop-at
+invariant-loop-at l = (l.at ≤ length l.table) × (first_above l.table ≡ l.at + first_above (drop l.at l.table))
+
+abbrev pub decreases-loop-at : goal.decreases-loop-at
+decreases-loop-at l = length l.table - l.at

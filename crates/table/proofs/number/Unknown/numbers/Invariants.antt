@@ -1,0 +1,25 @@
+-- `Unknown::numbers` meets its contract: after i turns the first i numbers stand.
+use mathlib.Core.Path.{◌≡◌, ◌∙◌}
+use mathlib.Core.List.{List, map}
+use Prim.Native.Nat.{ℕ, ◌-◌, ◌≤◌}
+use native.Mathlib.Omega.{arith}
+use lib.ListN.{length, length-map, get_or-map}
+use borrow.Author.Rules.{rules}
+use Rattle.laws.specs.Tab.{tab, upto, number_at}
+use Rattle.laws.proofs.Tab.{fill_start, fill_step, filled_list, replicate_tab}
+use Rattle.table.specs.Model.{limit}
+use Rattle.table.specs.Number.{unknown_number}
+use Rattle.table.specs.declared.number.Unknown.{Unknown}
+use Rattle.table.proofs.number.Unknown.numbers.Given as goal
+
+abbrev pub each : List Unknown → ℕ → ℕ
+each unknowns = number_at (map unknown_number unknowns)
+
+abbrev pub nothing : ℕ → ℕ
+nothing i = 0
+
+abbrev pub invariant-loop-i : goal.invariant-loop-i
+invariant-loop-i l = (l.i ≤ limit) × (l.numbers ≡ tab limit (upto l.i (each l.unknowns) nothing))
+
+abbrev pub decreases-loop-i : goal.decreases-loop-i
+decreases-loop-i l = limit - l.i

@@ -1,0 +1,6 @@
+-- `rows::code` reads the place of the equation's row and the unknown's column.
+use borrow.Author.Rules.{rules}
+use Rattle.table.proofs.rows.code.Goals as goal
+
+pub returns : goal.returns
+returns c = rw (c.place-row.ensures, c.place-column.ensures)

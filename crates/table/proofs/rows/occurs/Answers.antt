@@ -1,0 +1,6 @@
+-- `rows::occurs` tests the code that `code` reads.
+use borrow.Author.Rules.{rules}
+use Rattle.table.proofs.rows.occurs.Goals as goal
+
+pub returns : goal.returns
+returns c = rw c.code.ensures

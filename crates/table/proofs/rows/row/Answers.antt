@@ -1,0 +1,6 @@
+-- `rows::row` reads the place of the equation's row.
+use borrow.Author.Rules.{rules}
+use Rattle.table.proofs.rows.row.Goals as goal
+
+pub returns : goal.returns
+returns c = rw c.place-at.ensures
