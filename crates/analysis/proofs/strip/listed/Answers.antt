@@ -11,7 +11,7 @@ pub unused-requires : goal.unused-requires
 unused-requires c = c.requires.0
 
 pub loop-i-init : goal.loop-i-init
-loop-i-init c = (omega arith, listing_start (marked c.args.t3) c.unused.ensures)
+loop-i-init c = (omega arith, listing_start (marked c.args.marks) c.unused.ensures)
 
 pub bounds-stretch-at : goal.bounds-stretch-at
 bounds-stretch-at c = omega (arith, listing_long c.loop-i.invariant.1, listing_within c.loop-i.invariant.1)

@@ -10,7 +10,7 @@ pub unused-requires : goal.unused-requires
 unused-requires c = c.requires.0
 
 pub loop-i-init : goal.loop-i-init
-loop-i-init c = (omega arith, filling_start c.args.t3 c.unused.ensures)
+loop-i-init c = (omega arith, filling_start c.args.numbers c.unused.ensures)
 
 pub bounds-stretch-i : goal.bounds-stretch-i
 bounds-stretch-i c = omega (arith, filling_long c.loop-i.invariant.1)

@@ -14,7 +14,7 @@ use Rattle.blocks.proofs.reach.joined.Invariants.{one, nothing}
 use Rattle.blocks.proofs.reach.joined.Goals as goal
 
 pub loop-g-init : goal.loop-g-init
-loop-g-init c = (omega arith, replicate_tab {A = ℕ} limit 0 ∙ fill_start limit (one c.args.t1 c.args.t2) nothing)
+loop-g-init c = (omega arith, replicate_tab {A = ℕ} limit 0 ∙ fill_start limit (one c.args.row c.args.other) nothing)
 
 pub loop-g-preserved : goal.loop-g-preserved
 loop-g-preserved c =

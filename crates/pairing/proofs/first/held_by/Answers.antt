@@ -23,7 +23,7 @@ loop-u-preserved c =
     (
       omega arith,
       below_more _ _ c.loop-u.invariant.1
-          (λ t. c.if-holder-e.false (let y = eqb-true (holder c.args.t3 c.loop-u.u) (suc (c.args.e.0 - 1)) t in omega arith)),
+          (λ t. c.if-holder-e.false (let y = eqb-true (holder c.args.holders c.loop-u.u) (suc (c.args.e.0 - 1)) t in omega arith)),
     )
 
 pub returns : goal.returns

@@ -16,7 +16,7 @@ own : (c : tie.After-held-by)
     → (c.held_by.result.0 ≡ 0 → ⊥)
     × ((c.held_by.result.0 - 1 < c.args.n)
     × (held
-    c.args.t5
+    c.args.holders
     (c.args.e.0 - 1)
     (c.held_by.result.0 - 1) ≡ true))
 own c = owns c.requires.5 (search rules) c.held_by.ensures
@@ -25,7 +25,7 @@ own c = owns c.requires.5 (search rules) c.held_by.ensures
 asked : (c : tie.After-up-to) → Asked
     c.args.n
     (occurs_at c.args.table.now)
-    c.args.t5
+    c.args.holders
     (c.args.e.0 - 1)
     c.place-at.result
     c.place-own.result

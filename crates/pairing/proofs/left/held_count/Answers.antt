@@ -17,11 +17,11 @@ use Rattle.pairing.proofs.left.held_count.Goals as goal
 
 pub loop-u-preserved : goal.loop-u-preserved
 loop-u-preserved c =
-    let p = counted c.args.t2 in
+    let p = counted c.args.holders in
     let n = c.loop-u.u in
     ⊎_elim
-    (λ w. rw w.1 (omega arith, omega arith, rw (count_yes n p (rw (ne_eqb (holder c.args.t2 n) 0 w.0.taken))) (omega arith)))
-    (λ w. rw w.1 (omega arith, omega arith, rw (count_no n p (rw (eq-eqb (holder c.args.t2 n) 0 w.0.left))) (omega arith)))
+    (λ w. rw w.1 (omega arith, omega arith, rw (count_yes n p (rw (ne_eqb (holder c.args.holders n) 0 w.0.taken))) (omega arith)))
+    (λ w. rw w.1 (omega arith, omega arith, rw (count_no n p (rw (eq-eqb (holder c.args.holders n) 0 w.0.left))) (omega arith)))
     c.if-holder-ne0.branch
 
 pub returns : goal.returns

@@ -14,7 +14,7 @@ use Rattle.pairing.proofs.search.next_held.Goals as goal
 
 -- the unknown occurs in the asker, so it has a holder
 holder-numbered : (c : tie.After-place-arg invariant-loop decreases-loop)
-    → Numbered (holder c.args.t5 c.loop-u.u)
+    → Numbered (holder c.args.holders c.loop-u.u)
 holder-numbered c =
     let u = c.loop-u.u in
     let place : c.at-unknown.result.0 - 1 ≡ u = omega arith in
