@@ -9,7 +9,7 @@ use native.Mathlib.Omega.{arith}
 use lib.Dec.{eqb, ltb}
 use lib.ListN.{length, set, replicate, length-set}
 use lib.Seq.{get_or-set_same, get_or-set_other}
-use borrow.Author.Tests.{eqb-true, eqb-false, eq-eqb, lt-ltb, ltb-true, not_false}
+use borrow.Author.Tests.{eqb-true, eqb-false, eq-eqb, lt-ltb, ltb-true, not-false}
 use Rattle.laws.specs.Marks.{marked}
 use Rattle.laws.specs.Tab.{tab, upto}
 use Rattle.laws.proofs.Tests.{test, tests, given, clash, true≢false, not_true}
@@ -141,7 +141,7 @@ module _ {n : ℕ} {edge : Rel} {h k : List Equation} {e w : ℕ} (full : Full n
     }
       where
         got_none : not (eqb got 0) ≡ false → got ≡ 0
-        got_none t = eqb-true got 0 (not_false (eqb got 0) t)
+        got_none t = eqb-true got 0 (not-false (eqb got 0) t)
 
         given_away : (q : ℕ → ℕ) → Keeps n edge h e q → (i : ℕ) → i < e → q i ≡ u → ⊥
         given_away q keep i b o = let z = full.ok.one_e i g u (rw o at (keep.agrees i b)) hg in omega arith

@@ -3,7 +3,7 @@ use mathlib.Core.Path.{sym, ◌∙◌}
 use Prim.Native.Nat.{◌-◌}
 use native.Mathlib.Omega.{arith}
 use borrow.Author.Rules.{rules}
-use borrow.Author.Tests.{not_true, not_false}
+use borrow.Author.Tests.{not-true, not-false}
 use lib.ListN.{length}
 use Rattle.card.proofs.EntryLaws.{name_short, name_long, Spelt, spelt_start, spelt_step, spelt_stop, spelt_end}
 use Rattle.card.proofs.entry.good_name.Goals as goal
@@ -18,10 +18,10 @@ pub loop-i-init : goal.loop-i-init
 loop-i-init c = spelt_start c.args.name.now (omega arith) (omega arith)
 
 pub returns-then-not-name_byte : goal.returns-then-not-name_byte
-returns-then-not-name_byte c = spelt_stop c.loop-i.invariant (omega arith) (sym c.name_byte.ensures ∙ not_true _ c.if-not-name_byte.true)
+returns-then-not-name_byte c = spelt_stop c.loop-i.invariant (omega arith) (sym c.name_byte.ensures ∙ not-true _ c.if-not-name_byte.true)
 
 pub loop-i-preserved : goal.loop-i-preserved
-loop-i-preserved c = spelt_step c.loop-i.invariant (omega arith) (sym c.name_byte.ensures ∙ not_false _ c.if-not-name_byte.false)
+loop-i-preserved c = spelt_step c.loop-i.invariant (omega arith) (sym c.name_byte.ensures ∙ not-false _ c.if-not-name_byte.false)
 
 pub returns : goal.returns
 returns c = spelt_end c.loop-i.invariant (omega arith)

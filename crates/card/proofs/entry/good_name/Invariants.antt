@@ -3,7 +3,7 @@ use mathlib.Core.Path.{sym, ◌∙◌}
 use Prim.Native.Nat.{◌-◌}
 use native.Mathlib.Omega.{arith}
 use borrow.Author.Rules.{rules}
-use borrow.Author.Tests.{not_true, not_false}
+use borrow.Author.Tests.{not-true, not-false}
 use lib.ListN.{length}
 use Rattle.card.proofs.EntryLaws.{name_short, name_long, Spelt, spelt_start, spelt_step, spelt_stop, spelt_end}
 use Rattle.card.proofs.entry.good_name.Given as goal

@@ -2,7 +2,7 @@
 use mathlib.Core.Path.{sym, ◌∙◌, ap}
 use native.Mathlib.Omega.{arith}
 use borrow.Author.Rules.{rules}
-use borrow.Author.Tests.{not_true, not_false}
+use borrow.Author.Tests.{not-true, not-false}
 use borrow.Author.Rules.{part_to_end}
 use lib.ListN.{take}
 use lib.Seq.{length-take-le}
@@ -27,28 +27,28 @@ returns-then-not-starts c =
     c.end-1.given.0.0
     (sym c.line_at.ensures ∙ c.end-1.given.1) in
     rig_shape c.args.card.now k
-    (sym c.starts.ensures ∙ not_true _ c.if-not-starts.true)
+    (sym c.starts.ensures ∙ not-true _ c.if-not-starts.true)
 
 pub slice_bounds-good_name-count : goal.slice_bounds-good_name-count
 slice_bounds-good_name-count c = begins_length rig_key (take c.end-1.given.0.0
     c.args.card.now)
-    (sym c.starts.ensures ∙ not_false _ c.if-not-starts.false)
+    (sym c.starts.ensures ∙ not-false _ c.if-not-starts.false)
 
 pub slice_bounds-good_name-start : goal.slice_bounds-good_name-start
 slice_bounds-good_name-start c = begins_length rig_key (take c.end-1.given.0.0
     c.args.card.now)
-    (sym c.starts.ensures ∙ not_false _ c.if-not-starts.false)
+    (sym c.starts.ensures ∙ not-false _ c.if-not-starts.false)
 
 pub returns-then-good_name : goal.returns-then-good_name
 returns-then-good_name c = let s = c.args.card.now in
     let e = c.end-1.given.0.0 in
     rig_good s (found s 0 e (sym c.line_at.ensures ∙ c.end-1.given.1))
-    (sym c.starts.ensures ∙ not_false _ c.if-not-starts.false)
+    (sym c.starts.ensures ∙ not-false _ c.if-not-starts.false)
     (sym (c.good_name.ensures ∙ ap good_name (part_to_end (take e s) 4)) ∙ c.if-good_name.true)
 
 pub returns-else-good_name : goal.returns-else-good_name
 returns-else-good_name c = let s = c.args.card.now in
     let e = c.end-1.given.0.0 in
     rig_bad s (found s 0 e (sym c.line_at.ensures ∙ c.end-1.given.1))
-    (sym c.starts.ensures ∙ not_false _ c.if-not-starts.false)
+    (sym c.starts.ensures ∙ not-false _ c.if-not-starts.false)
     (sym (c.good_name.ensures ∙ ap good_name (part_to_end (take e s) 4)) ∙ c.if-good_name.false)

@@ -3,7 +3,7 @@ use mathlib.Core.Path.{sym, ◌∙◌}
 use Prim.Native.Nat.{◌-◌}
 use native.Mathlib.Omega.{arith}
 use borrow.Author.Rules.{rules}
-use borrow.Author.Tests.{not_true, not_false}
+use borrow.Author.Tests.{not-true, not-false}
 use lib.ListN.{get_or}
 use Rattle.card.proofs.TextLaws.{Taken, number_none, number_other, number_zero, digit_low, digit_high, taken_start, taken_below, taken_end}
 use Rattle.card.proofs.TextLaws.{taken_full, taken_stop, taken_step}

@@ -4,7 +4,7 @@ use mathlib.Core.Bool.{true}
 use Prim.Native.Nat.{suc, ◌-◌, ◌<◌}
 use native.Mathlib.Omega.{arith}
 use borrow.Author.Rules.{rules}
-use borrow.Author.Tests.{not_true, not_false}
+use borrow.Author.Tests.{not-true, not-false}
 use Rattle.table.specs.Model.{occurs_at}
 use Rattle.pairing.specs.Holders.{held}
 use Rattle.pairing.proofs.Searching.{widen}
@@ -38,7 +38,7 @@ asked c =
       unknown = search rules;
       all = search rules;
       number = omega arith;
-      occurs = rw c.place-at.ensures (sym c.occurs.ensures ∙ not_false c.occurs.result c.if-not-occurs.false);
+      occurs = rw c.place-at.ensures (sym c.occurs.ensures ∙ not-false c.occurs.result c.if-not-occurs.false);
       own = rw c.place-own.ensures (own c.before).1.1;
       later = omega (arith, c.if-holder-e.false);
     }
@@ -49,7 +49,7 @@ marks-up c =
     c.up_to.ensures ∙ ap marks number
 
 pub returns-then-not-occurs : goal.returns-then-not-occurs
-returns-then-not-occurs c = tried_absent (search rules) (sym c.occurs.ensures ∙ not_true c.occurs.result c.if-not-occurs.true)
+returns-then-not-occurs c = tried_absent (search rules) (sym c.occurs.ensures ∙ not-true c.occurs.result c.if-not-occurs.true)
 
 pub returns-then-holder-e : goal.returns-then-holder-e
 returns-then-holder-e c =

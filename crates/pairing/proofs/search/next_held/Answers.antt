@@ -4,7 +4,7 @@ use mathlib.Core.Logic.{⊎_elim}
 use Prim.Native.Nat.{◌-◌}
 use native.Mathlib.Omega.{arith}
 use borrow.Author.Rules.{rules}
-use borrow.Author.Tests.{not_true, not_false}
+use borrow.Author.Tests.{not-true, not-false}
 use Rattle.laws.specs.Marks.{marked}
 use Rattle.laws.proofs.Tests.{clash}
 use Rattle.table.specs.Model.{Numbered, occurs_at}
@@ -36,7 +36,7 @@ returns-then-not-asked-holder c =
     next_hit a.unknowns (occurs_at a.table.now) (a.asker.0 - 1) a.from a.t5 a.t6 u c.at-unknown.result.0
     c.at-unknown.ensures (search rules) c.loop-u.invariant
     (sym c.occurs.ensures ∙ c.if-occurs.true)
-    (rw c.place-holder.ensures at (not_true (marked a.t6 c.place-holder.result) c.if-not-asked-holder.true))
+    (rw c.place-holder.ensures at (not-true (marked a.t6 c.place-holder.result) c.if-not-asked-holder.true))
 
 pub loop-u-preserved : goal.loop-u-preserved
 loop-u-preserved c =
@@ -45,7 +45,7 @@ loop-u-preserved c =
     let place : c.at-unknown.result.0 - 1 ≡ u = omega arith in
     let r = rw place at c.occurs.ensures in
     passed_more 0 (occurs_at a.table.now) (a.asker.0 - 1) a.from a.t5 a.t6 u c.loop-u.invariant
-    (⊎_elim (λ w t. rw w.2.ensures at (not_false (marked a.t6 w.2.result) w.3.left)) (λ w t. clash (r ∙ t) w.left) c.if-occurs.branch)
+    (⊎_elim (λ w t. rw w.2.ensures at (not-false (marked a.t6 w.2.result) w.3.left)) (λ w t. clash (r ∙ t) w.left) c.if-occurs.branch)
 
 pub returns : goal.returns
 returns c =

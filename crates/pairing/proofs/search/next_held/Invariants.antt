@@ -4,7 +4,7 @@ use mathlib.Core.Logic.{⊎_elim}
 use Prim.Native.Nat.{◌-◌}
 use native.Mathlib.Omega.{arith}
 use borrow.Author.Rules.{rules}
-use borrow.Author.Tests.{not_true, not_false}
+use borrow.Author.Tests.{not-true, not-false}
 use Rattle.laws.specs.Marks.{marked}
 use Rattle.laws.proofs.Tests.{clash}
 use Rattle.table.specs.Model.{Numbered, occurs_at}
