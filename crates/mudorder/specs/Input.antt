@@ -7,4 +7,4 @@ use Rattle.mudorder.specs.declared.input.Input.TheVariants.{Ended, Full, Failed}
 abbrev pub Possible : ℕ → Input → Type 0
 Possible n (Ended k) = k < n
 Possible n Full = Unit {0}
-Possible n Failed = 0 < n
+Possible n (Failed why) = 0 < n
