@@ -20,9 +20,9 @@ pub loop-g-preserved : goal.loop-g-preserved
 loop-g-preserved c =
     let a = c.args in
     let loop = c.loop-g in
-    (omega arith, fill_next limit loop.g (one a.t1 a.t2) nothing _ _ loop.invariant.1 c.either_of.ensures (omega arith))
+    (omega arith, fill_next limit loop.g (one a.row a.other) nothing _ _ loop.invariant.1 c.either_of.ensures (omega arith))
 
 pub returns : goal.returns
 returns c =
     let a = c.args in
-    fill_done limit c.loop-g.g (one a.t1 a.t2) nothing _ c.loop-g.invariant.1 (omega arith)
+    fill_done limit c.loop-g.g (one a.row a.other) nothing _ c.loop-g.invariant.1 (omega arith)

@@ -19,12 +19,11 @@ returns-then-holder-e c =
     held_hit c.loop-u.u c.at.result.0 c.at.ensures (search rules) (omega arith)
 
 pub loop-u-preserved : goal.loop-u-preserved
-loop-u-preserved c =
-    (
-      omega arith,
-      below_more _ _ c.loop-u.invariant.1
-          (λ t. c.if-holder-e.false (let y = eqb-true (holder c.args.holders c.loop-u.u) (suc (c.args.e.0 - 1)) t in omega arith)),
-    )
+loop-u-preserved c = (
+  omega arith,
+  below_more _ _ c.loop-u.invariant.1
+      (λ t. c.if-holder-e.false (let y = eqb-true (holder c.args.holders c.loop-u.u) (suc (c.args.e.0 - 1)) t in omega arith)),
+)
 
 pub returns : goal.returns
 returns c = held_none c.loop-u.u c.loop-u-test.false c.loop-u.invariant.1
