@@ -1,12 +1,10 @@
 -- `first::held_by` passes the unknowns in turn: none passed is held by the equation.
-use mathlib.Core.Path.{◌≡◌}
-use mathlib.Core.Bool.{true}
-use Prim.Native.Nat.{ℕ, suc, ◌-◌, ◌<◌, ◌≤◌}
+use Prim.Native.Nat.{suc, ◌-◌}
 use native.Mathlib.Omega.{arith}
 use borrow.Author.Count.{below_more}
 use borrow.Author.Rules.{rules}
 use borrow.Author.Tests.{eqb-true}
-use Rattle.pairing.specs.Holders.{holder, held}
+use Rattle.pairing.specs.Holders.{holder}
 use Rattle.pairing.proofs.Trying.{held_hit, held_none}
 use Rattle.pairing.proofs.first.held_by.Goals as goal
 

@@ -1,12 +1,9 @@
 -- `first::trial`, by the laws of proofs/Trying: the unknown is absent, or held by an equation up to this one, or its holder is asked to move on.
 use mathlib.Core.Path.{◌≡◌, sym, ap, ◌∙◌}
-use mathlib.Core.Bool.{true}
-use Prim.Native.Nat.{suc, ◌-◌, ◌<◌}
+use Prim.Native.Nat.{suc, ◌-◌}
 use native.Mathlib.Omega.{arith}
 use borrow.Author.Rules.{rules}
-use borrow.Author.Tests.{not-true, not-false}
 use Rattle.table.specs.Model.{occurs_at}
-use Rattle.pairing.specs.Holders.{held}
 use Rattle.pairing.proofs.Searching.{widen}
 use Rattle.pairing.proofs.Trying.{marks, owns, Asked, swapped_asks, swapped_tried, tried_absent, tried_held}
 use Rattle.pairing.proofs.first.trial.Goals as goal

@@ -2,18 +2,17 @@
 -- The steps are the laws of proofs/Searching: takes, asks, moves, turn-start, turn-next, ends.
 use mathlib.Core.Path.{◌≡◌, refl, sym, ◌∙◌}
 use mathlib.Core.Bool.{true}
-use Prim.Native.Nat.{ℕ, suc, ◌-◌, ◌<◌}
+use Prim.Native.Nat.{ℕ, ◌-◌, ◌<◌}
 use native.Mathlib.Numerals.{add-one}
 use native.Mathlib.Omega.{arith}
 use lib.ListN.{length, set}
 use borrow.Author.Rules.{rules}
-use Rattle.laws.specs.Marks.{marked, falses}
+use Rattle.laws.specs.Marks.{marked}
 use Rattle.laws.proofs.Marks.{falses_fall}
 use Rattle.table.specs.Model.{limit, occurs_at}
-use Rattle.pairing.specs.Holders.{holder, held, Asking, Searched, Nothing}
-use Rattle.pairing.specs.Looking.{AllHeld}
+use Rattle.pairing.specs.Holders.{holder, held}
 use Rattle.pairing.proofs.Give.{Given}
-use Rattle.pairing.proofs.Searching.{Turn, Wanted, wanted, giving, restored, takes, asks, moves, all_held, turn_start, turn_next, ends, fewer, turn_asked, has_found, has_nothing}
+use Rattle.pairing.proofs.Searching.{Wanted, wanted, giving, restored, takes, asks, moves, all_held, turn_start, turn_next, ends, fewer, turn_asked, has_found, has_nothing}
 use Rattle.pairing.proofs.search.+search.Goals as goal
 use Rattle.pairing.proofs.search.+search.Goals.{Start, Else-free-ne0, In-loop-wanted, After-place-place, Else-moved-ne0, After-loop-wanted, Then-moved-ne0}
 

@@ -1,19 +1,11 @@
 -- `search::search`: the first pass finds a free unknown; the second asks the holders in turn. What falls is the number of those not asked.
 -- The steps are the laws of proofs/Searching: takes, asks, moves, turn-start, turn-next, ends.
-use mathlib.Core.Path.{◌≡◌, refl, sym, ◌∙◌}
-use mathlib.Core.Bool.{true}
-use Prim.Native.Nat.{ℕ, suc, ◌-◌, ◌<◌}
-use native.Mathlib.Numerals.{add-one}
-use native.Mathlib.Omega.{arith}
-use lib.ListN.{length, set}
-use borrow.Author.Rules.{rules}
-use Rattle.laws.specs.Marks.{marked, falses}
-use Rattle.laws.proofs.Marks.{falses_fall}
+use mathlib.Core.Path.{◌≡◌}
+use Prim.Native.Nat.{◌-◌}
+use lib.ListN.{length}
+use Rattle.laws.specs.Marks.{falses}
 use Rattle.table.specs.Model.{limit, occurs_at}
-use Rattle.pairing.specs.Holders.{holder, held, Asking, Searched, Nothing}
-use Rattle.pairing.specs.Looking.{AllHeld}
-use Rattle.pairing.proofs.Give.{Given}
-use Rattle.pairing.proofs.Searching.{Turn, Wanted, wanted, giving, restored, takes, asks, moves, all_held, turn_start, turn_next, ends, fewer, turn_asked, has_found, has_nothing}
+use Rattle.pairing.proofs.Searching.{Turn}
 use Rattle.pairing.proofs.search.+search.Given as goal
 
 -- the holders are those of the start, and the second pass stands at the wanted unknown
