@@ -18,10 +18,10 @@ pub loop-i-init : goal.loop-i-init
 loop-i-init c = spelt_start c.args.name.now (omega arith) (omega arith)
 
 pub returns-then-not-name_byte : goal.returns-then-not-name_byte
-returns-then-not-name_byte c = spelt_stop c.loop-i.invariant (omega arith) (sym c.name_byte.ensures ∙ not-true _ c.if-not-name_byte.true)
+returns-then-not-name_byte c = spelt_stop c.loop-i.invariant (omega arith) (sym c.name_byte.ensures ∙ c.if-not-name_byte.true)
 
 pub loop-i-preserved : goal.loop-i-preserved
-loop-i-preserved c = spelt_step c.loop-i.invariant (omega arith) (sym c.name_byte.ensures ∙ not-false _ c.if-not-name_byte.false)
+loop-i-preserved c = spelt_step c.loop-i.invariant (omega arith) (sym c.name_byte.ensures ∙ c.if-not-name_byte.false)
 
 pub returns : goal.returns
 returns c = spelt_end c.loop-i.invariant (omega arith)
