@@ -2,7 +2,7 @@
 use mathlib.Core.Path.{sym}
 use native.Mathlib.Omega.{arith}
 use Rattle.card.proofs.ListLaws.{collecting_start, collecting_next, collecting_refused, collecting_ended, turn_next}
-use Rattle.card.proofs.ListLaws.{Taking, Onward, place_fits, cell_fits}
+use Rattle.card.proofs.ListLaws.{Taking, Onward, cell_fits}
 use Rattle.card.proofs.list.read_list.Goals as goal
 use Rattle.card.proofs.list.read_list.Goals.{In-Next}
 
