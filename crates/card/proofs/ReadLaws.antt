@@ -121,17 +121,17 @@ part_name s end = go 4 end s
     go (suc n) (suc m) (x ∷ l) = let z : suc m - suc n ≡ m - n = omega arith in rw z (go n m l)
 
 module _ {card : Bor (List ℕ)} {h : Head} (k : HeadRead card.now h) where
-  pub name_faulty : {m at g p : ℕ} → h ≡ Faulty m at → p ≡ 0 + card.ref_ptr.1 → NamePart card (record { ref_ptr = (card.ref_ptr.0, p); ghost_name = g; now = [] })
+  pub name_faulty : {m at p : ℕ} → h ≡ Faulty m at → p ≡ 0 + card.ref_ptr.1 → NamePart card (record { ref_ptr = (card.ref_ptr.0, p); now = [] })
   name_faulty e q = record { bytes = rw (head_faulty k e); block = refl; place = rw (head_faulty k e) q }
 
   module _ {end E U next : ℕ} (e : h ≡ Start end E U next) {r : Collected} (l : ListRead card.now E U next r) where
-    pub name_refused : {g p : ℕ} → (r.number ≡ 0 → ⊥) → p ≡ 0 + card.ptr.1 → NamePart card (record { ref_ptr = (card.ptr.0, p); ghost_name = g; now = [] })
+    pub name_refused : {p : ℕ} → (r.number ≡ 0 → ⊥) → p ≡ 0 + card.ref_ptr.1 → NamePart card (record { ref_ptr = (card.ref_ptr.0, p); now = [] })
     name_refused n q =
         let w : judged card.now ≡ refused r.number r.place = head_start k e ∙ list_refused l n (drop (length rig_key) (take end card.now)) in
         record { bytes = rw w; block = refl; place = rw w q }
 
-    pub name_good : {g p : ℕ} → r.number ≡ 0 → p ≡ 4 + card.ptr.1
-        → NamePart card (record { ref_ptr = (card.ref_ptr.0, p); ghost_name = g; now = take (end - 4) (drop 4 card.now) })
+    pub name_good : {p : ℕ} → r.number ≡ 0 → p ≡ 4 + card.ref_ptr.1
+        → NamePart card (record { ref_ptr = (card.ref_ptr.0, p); now = take (end - 4) (drop 4 card.now) })
     name_good n q =
         let w : judged card.now ≡ good (drop (length rig_key) (take end card.now)) E U (take (E * U) r.table)
         = head_start k e ∙ list_good l n (drop (length rig_key) (take end card.now)) in

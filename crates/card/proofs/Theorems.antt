@@ -6,7 +6,7 @@ use mathlib.Core.List.{List, ◌++◌}
 use mathlib.Core.Logic.{◌↔◌}
 use Prim.Native.Nat.{ℕ, ◌+◌, ◌*◌, ◌≤◌}
 use native.Mathlib.Omega.{arith}
-use denote.Ref.{Bor, MutBor}
+use denote.Ref.{Bor}
 use lib.Dec.{leb, ltb, eqb}
 use lib.ListN.{length, take, drop, length-append}
 use lib.Seq.{take_at}
@@ -227,7 +227,7 @@ name_lies s = go (judged s) refl
         }
 
 -- of a good card it is the name
-pub name_succeeds : {card part : MutBor (List ℕ)} {name t : List ℕ} {E U : ℕ} → IsCard card.now name E U t → NamePart card part → part.now ≡ name
+pub name_succeeds : {card part : Bor (List ℕ)} {name t : List ℕ} {E U : ℕ} → IsCard card.now name E U t → NamePart card part → part.now ≡ name
 name_succeeds {card} {part} {name} {t} {E} {U} i k = k.bytes ∙ ap name_of ((good_exactly card.now name E U t).1 i)
 
 -- ---- there and back

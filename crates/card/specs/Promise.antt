@@ -1,6 +1,6 @@
 -- What the three entries promise, in document 01's order: a good card, the reader, the name question, the writer.
 use Rattle.std.specs.Prelude.{◌≡◌, true, List, ℕ, ◌+◌, ◌*◌, eqb, length}
-use Rattle.std.specs.Borrow.{MutBor}
+use Rattle.std.specs.Borrow.{Bor}
 use Rattle.table.specs.Model.{in_limits, first_above}
 use Rattle.card.specs.Entry.{good_name}
 use Rattle.card.specs.Card.{judged, read_of, table_of, name_of, name_at, card_of, write_of, card_after}
@@ -24,8 +24,8 @@ pub record ReadDone (s before : List ℕ) (r : Reading) (after : List ℕ) : Typ
   pub answer : r ≡ read_of (length before) (judged s)
   pub bytes : after ≡ table_of before (judged s)
 
--- the name question: the part's bytes, and where it lies in the card that was handed over (`ptr`: a block of memory and an offset in it)
-pub record NamePart (card part : MutBor (List ℕ)) : Type 0 where
+-- the name question: the part's bytes, and where it lies in the card that was handed over (`ref_ptr`: a block of memory and an offset in it)
+pub record NamePart (card part : Bor (List ℕ)) : Type 0 where
   pub bytes : part.now ≡ name_of (judged card.now)
   pub block : part.ref_ptr.0 ≡ card.ref_ptr.0
   pub place : part.ref_ptr.1 ≡ name_at (judged card.now) + card.ref_ptr.1

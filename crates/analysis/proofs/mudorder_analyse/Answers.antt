@@ -3,7 +3,6 @@ use mathlib.Core.Path.{sym, ◌∙◌}
 use lib.ListN.{length}
 use Rattle.analysis.proofs.Refusal.{accepted, well_sized_lem, judged_rows, place_fits}
 use Rattle.analysis.proofs.Verdicts.{reply_refused, reply_verdict}
-use borrow.Author.Rules.{rules}
 use Rattle.analysis.proofs.mudorder_analyse.Goals as goal
 
 pub pack-requires : goal.pack-requires

@@ -1,8 +1,7 @@
 -- `card::copy` meets its contract: the bytes so far are the codes'.
 use Prim.Native.Nat.{◌-◌}
-use native.Mathlib.Omega.{arith}
 use lib.ListN.{length}
-use Rattle.card.proofs.ReadLaws.{Copying, copying_start, copying_step, copying_end}
+use Rattle.card.proofs.ReadLaws.{Copying}
 use Rattle.card.proofs.copy.Given as goal
 
 abbrev pub invariant-loop-i : goal.invariant-loop-i

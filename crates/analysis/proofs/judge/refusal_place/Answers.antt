@@ -1,7 +1,6 @@
 -- `judge::refusal_place` meets its contract, by its one test.
 use mathlib.Core.Path.{refl, ◌∙◌}
 use borrow.Author.Tests.{eq-eqb, ne_eqb}
-use borrow.Author.Rules.{rules}
 use Rattle.analysis.proofs.judge.refusal_place.Goals as goal
 
 pub returns-then-code-eq4 : goal.returns-then-code-eq4

@@ -4,7 +4,6 @@ use Prim.Native.Nat.{suc}
 use Rattle.laws.specs.Marks.{marked}
 use Rattle.pairing.specs.Members.{members}
 use Rattle.analysis.proofs.Put.{put_five}
-use borrow.Author.Rules.{rules}
 use Rattle.analysis.proofs.singular.write.Goals as goal
 
 pub returns : goal.returns

@@ -1,7 +1,6 @@
 -- `solvable::solve` meets its contract: each part's function hands on what the next one asks for.
 use Rattle.counts.proofs.Chosen.{chosen_small, chosen_full, freedom_asks}
 use Rattle.blocks.proofs.FirstPartners.{first_partnered}
-use borrow.Author.Rules.{rules}
 use Rattle.analysis.proofs.solvable.solve.Goals as goal
 
 pub leading_rows-leading-requires : goal.leading_rows-leading-requires

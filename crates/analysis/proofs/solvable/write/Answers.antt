@@ -1,7 +1,6 @@
 -- `solvable::write` meets its contract: five stretches, each filled by its writer.
 use mathlib.Core.List.{map}
 use lib.ListN.{take}
-use borrow.Author.Rules.{rules}
 use Rattle.table.specs.Number.{equation_number, unknown_number}
 use Rattle.analysis.proofs.Put.{put_five}
 use Rattle.analysis.proofs.solvable.write.Goals as goal

@@ -1,11 +1,10 @@
 -- `strip::listed` meets its contract: after i turns the stretch lists the marked places below i, by number.
 use mathlib.Core.Path.{sym, ◌∙◌}
-use Prim.Native.Nat.{◌-◌, ◌≤◌}
 use native.Mathlib.Omega.{arith}
-use mathlib.Core.Logic.{⊎_elim}
 use Rattle.laws.specs.Marks.{marked}
-use Rattle.analysis.proofs.Strips.{Listing, listing_long, listing_within, listing_start, listing_skip, listing_add, listing_end}
+use Rattle.analysis.proofs.Strips.{listing_long, listing_within, listing_start, listing_skip, listing_add, listing_end}
 use Rattle.analysis.proofs.strip.listed.Goals as goal
+use Rattle.analysis.proofs.strip.listed.Goals.{then-marks-i, else-marks-i}
 
 pub unused-requires : goal.unused-requires
 unused-requires c = c.requires.0
@@ -22,8 +21,10 @@ overflow_add-at c = omega (arith, listing_within c.loop-i.invariant.1)
 pub loop-i-preserved : goal.loop-i-preserved
 loop-i-preserved c = (
   omega arith,
-  ⊎_elim (λ w. rw (w.1, w.2) (listing_add c.loop-i.invariant.1 w.0.taken (omega arith)))
-      (λ w. rw (w.1, w.2) (listing_skip c.loop-i.invariant.1 w.0.left)) c.if-marks-i.branch,
+  elim c.if-marks-i.branch [
+    | then-marks-i w ↦ rw (w.stretch-is, w.at-is) (listing_add c.loop-i.invariant.1 w.if-marks-i.true (omega arith))
+    | else-marks-i w ↦ rw (w.stretch-is, w.at-is) (listing_skip c.loop-i.invariant.1 w.if-marks-i.false)
+  ],
 )
 
 pub shape_of-stretch : goal.shape_of-stretch

@@ -1,10 +1,7 @@
 -- `strip::listed` meets its contract: after i turns the stretch lists the marked places below i, by number.
-use mathlib.Core.Path.{sym, ◌∙◌}
 use Prim.Native.Nat.{◌-◌, ◌≤◌}
-use native.Mathlib.Omega.{arith}
-use mathlib.Core.Logic.{⊎_elim}
 use Rattle.laws.specs.Marks.{marked}
-use Rattle.analysis.proofs.Strips.{Listing, listing_long, listing_within, listing_start, listing_skip, listing_add, listing_end}
+use Rattle.analysis.proofs.Strips.{Listing}
 use Rattle.analysis.proofs.strip.listed.Given as goal
 
 abbrev pub invariant-loop-i : goal.invariant-loop-i

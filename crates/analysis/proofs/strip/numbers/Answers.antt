@@ -1,9 +1,8 @@
 -- `strip::numbers` meets its contract: after i turns the stretch holds the first i numbers.
 use mathlib.Core.Path.{sym, ◌∙◌}
-use Prim.Native.Nat.{◌-◌, ◌≤◌}
 use native.Mathlib.Omega.{arith}
 use borrow.Author.Rules.{rules}
-use Rattle.analysis.proofs.Strips.{Filling, filling_long, filling_start, filling_step, filling_end}
+use Rattle.analysis.proofs.Strips.{filling_long, filling_start, filling_step, filling_end}
 use Rattle.analysis.proofs.strip.numbers.Goals as goal
 
 pub unused-requires : goal.unused-requires

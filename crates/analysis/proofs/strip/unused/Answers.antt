@@ -1,9 +1,7 @@
 -- `strip::unused` meets its contract: the stretch is cleared place by place.
-use Prim.Native.Nat.{◌-◌}
 use native.Mathlib.Omega.{arith}
 use mathlib.Core.Path.{◌∙◌, sym}
-use Rattle.table.specs.Model.{limit}
-use Rattle.analysis.proofs.Strips.{Clearing, clearing_start, clearing_step, clearing_end}
+use Rattle.analysis.proofs.Strips.{clearing_start, clearing_step, clearing_end}
 use Rattle.analysis.proofs.strip.unused.Goals as goal
 
 pub loop-i-init : goal.loop-i-init

@@ -1,7 +1,6 @@
 -- `verdict::verdict` meets its contract: who may be left over, and then one of the two answers.
 use mathlib.Core.Path.{sym, ◌∙◌}
 use Rattle.analysis.proofs.Verdicts.{all_pairable, verdict_solvable, verdict_singular}
-use borrow.Author.Rules.{rules}
 use Rattle.analysis.proofs.verdict.verdict.Goals as goal
 
 pub solvable-requires : goal.solvable-requires

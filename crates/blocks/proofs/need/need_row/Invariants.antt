@@ -1,15 +1,12 @@
 -- `need::need_row` fills one place after another; beyond the last equation nothing is needed.
-use mathlib.Core.Path.{◌≡◌, ◌∙◌}
+use mathlib.Core.Path.{◌≡◌}
 use mathlib.Core.List.{List}
 use Prim.Native.Nat.{ℕ, ◌-◌, ◌≤◌}
-use native.Mathlib.Omega.{arith}
-use borrow.Author.Rules.{rules}
 use Rattle.laws.specs.Tab.{tab, upto}
-use Rattle.laws.proofs.Tab.{fill_start, replicate_tab}
 use Rattle.table.specs.Model.{limit, occurs_at}
 use Rattle.table.specs.declared.number.Unknown.{Unknown}
 use Rattle.blocks.specs.Handed.{partner_at}
-use Rattle.blocks.proofs.Tables.{fill_next, need_bit, need_here, need_row_end}
+use Rattle.blocks.proofs.Tables.{need_bit}
 use Rattle.blocks.proofs.need.need_row.Given as goal
 
 abbrev pub bits : List (List ℕ) → ℕ → List Unknown → ℕ → ℕ → ℕ

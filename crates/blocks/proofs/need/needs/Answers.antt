@@ -1,16 +1,11 @@
 -- `need::needs` fills one row after another; equations beyond the last need nothing.
 use mathlib.Core.Path.{◌≡◌, ◌∙◌}
-use mathlib.Core.List.{List}
-use Prim.Native.Nat.{ℕ, ◌-◌, ◌≤◌}
 use native.Mathlib.Omega.{arith}
 use lib.ListN.{replicate}
-use borrow.Author.Rules.{rules}
-use Rattle.laws.specs.Tab.{tab, upto}
 use Rattle.laws.proofs.Tab.{fill_start, replicate_tab}
 use Rattle.table.specs.Model.{limit, occurs_at}
-use Rattle.table.specs.declared.number.Unknown.{Unknown}
 use Rattle.blocks.specs.Handed.{partner_at}
-use Rattle.blocks.proofs.Tables.{fill_next, need_bit, needs_end}
+use Rattle.blocks.proofs.Tables.{fill_next, needs_end}
 use Rattle.blocks.proofs.need.needs.Invariants.{row_of, zeros}
 use Rattle.blocks.proofs.need.needs.Goals as goal
 

@@ -1,5 +1,4 @@
 -- `number::keeps` makes the three tests one after the other.
-use borrow.Author.Rules.{rules}
 use mathlib.Core.Path.{refl}
 use Rattle.blocks.proofs.Codes.{none_fails, some_then, some_fails, none_then}
 use Rattle.blocks.proofs.number.keeps.Goals as goal

@@ -1,11 +1,8 @@
 -- `number::lowest` looks at the equations ascending and keeps the first that waits.
-use mathlib.Core.Path.{sym, ◌∙◌}
-use mathlib.Core.Logic.{⊎_elim}
 use Prim.Native.Nat.{◌-◌}
-use borrow.Author.Rules.{rules}
 use Rattle.table.specs.Model.{occurs_at}
 use Rattle.laws.specs.Tab.{number_at}
-use Rattle.blocks.proofs.Numbering.{Seeking, seek_start, seek_found, seek_kept, seek_past, seek_end}
+use Rattle.blocks.proofs.Numbering.{Seeking}
 use Rattle.blocks.proofs.number.lowest.Given as goal
 
 abbrev pub invariant-loop-e : goal.invariant-loop-e

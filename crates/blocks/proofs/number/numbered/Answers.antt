@@ -1,6 +1,5 @@
 -- `number::numbered` tests whether the two share a block.
 use mathlib.Core.Path.{sym, ◌∙◌}
-use borrow.Author.Rules.{rules}
 use Rattle.blocks.proofs.number.numbered.Goals as goal
 
 pub returns-then-share : goal.returns-then-share

@@ -1,10 +1,9 @@
 -- `number::numbers` gives the lowest ready block the next number until no block is ready; then all stand.
 use native.Mathlib.Omega.{arith}
 use borrow.Author.Rules.{rules}
-use Rattle.table.specs.Model.{limit, occurs_at}
-use Rattle.laws.specs.Tab.{number_at}
+use Rattle.table.specs.Model.{limit}
 use Rattle.laws.proofs.Tab.{copies_at}
-use Rattle.blocks.proofs.Numbering.{unplaced, Counting, counting_start, counting_falls, counting_step, counting_end}
+use Rattle.blocks.proofs.Numbering.{counting_start, counting_falls, counting_step, counting_end}
 use Rattle.blocks.proofs.number.numbers.Goals as goal
 
 pub loop-e-init : goal.loop-e-init

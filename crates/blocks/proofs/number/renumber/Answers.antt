@@ -1,13 +1,9 @@
 -- `number::renumber` fills one place after another with the number that the equation has then.
-use mathlib.Core.Path.{◌≡◌, ◌∙◌}
-use mathlib.Core.List.{List}
-use Prim.Native.Nat.{ℕ, ◌-◌, ◌≤◌}
+use mathlib.Core.Path.{◌∙◌}
+use Prim.Native.Nat.{ℕ}
 use native.Mathlib.Omega.{arith}
-use borrow.Author.Rules.{rules}
-use Rattle.laws.specs.Tab.{tab, upto, number_at}
 use Rattle.laws.proofs.Tab.{fill_start, replicate_tab}
-use Rattle.table.specs.Model.{limit, occurs_at}
-use Rattle.blocks.specs.Steps.{renumbered}
+use Rattle.table.specs.Model.{limit}
 use Rattle.blocks.proofs.Tables.{fill_next, fill_done}
 use Rattle.blocks.proofs.number.renumber.Invariants.{now-has, nothing}
 use Rattle.blocks.proofs.number.renumber.Goals as goal

@@ -1,14 +1,10 @@
 -- `number::renumber` fills one place after another with the number that the equation has then.
-use mathlib.Core.Path.{◌≡◌, ◌∙◌}
+use mathlib.Core.Path.{◌≡◌}
 use mathlib.Core.List.{List}
 use Prim.Native.Nat.{ℕ, ◌-◌, ◌≤◌}
-use native.Mathlib.Omega.{arith}
-use borrow.Author.Rules.{rules}
 use Rattle.laws.specs.Tab.{tab, upto, number_at}
-use Rattle.laws.proofs.Tab.{fill_start, replicate_tab}
 use Rattle.table.specs.Model.{limit, occurs_at}
 use Rattle.blocks.specs.Steps.{renumbered}
-use Rattle.blocks.proofs.Tables.{fill_next, fill_done}
 use Rattle.blocks.proofs.number.renumber.Given as goal
 
 abbrev pub now-has : List (List ℕ) → List ℕ → ℕ → ℕ → ℕ → ℕ

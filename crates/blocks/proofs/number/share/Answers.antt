@@ -1,5 +1,4 @@
 -- `number::share` tests both ways.
-use borrow.Author.Rules.{rules}
 use mathlib.Core.Path.{refl}
 use Rattle.blocks.proofs.Codes.{none_fails, some_then}
 use Rattle.blocks.proofs.number.share.Goals as goal

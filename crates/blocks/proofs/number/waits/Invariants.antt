@@ -1,14 +1,10 @@
 -- `number::waits` finds out whether the equation stands, and then whether any other keeps it.
-use mathlib.Core.Path.{◌≡◌, sym, ◌∙◌}
+use mathlib.Core.Path.{◌≡◌}
 use mathlib.Core.Bool.{false}
 use Prim.Native.Nat.{ℕ, ◌<◌, ◌-◌, ◌≤◌}
-use native.Mathlib.Omega.{arith}
-use borrow.Author.Rules.{rules}
-use borrow.Author.Count.{below_more}
 use Rattle.table.specs.Model.{occurs_at}
 use Rattle.laws.specs.Tab.{number_at}
 use Rattle.blocks.specs.Steps.{keeps_at}
-use Rattle.blocks.proofs.Numbering.{stands_already, is_kept, none_keeps}
 use Rattle.blocks.proofs.number.waits.Given as goal
 
 abbrev pub invariant-loop-g : goal.invariant-loop-g

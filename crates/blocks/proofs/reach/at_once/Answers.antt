@@ -1,9 +1,6 @@
 -- `reach::at_once` sets the own place in one row after another; beyond the last equation there is nothing to set.
 use mathlib.Core.Path.{◌≡◌, ◌∙◌}
-use Prim.Native.Nat.{◌-◌, ◌≤◌}
 use native.Mathlib.Omega.{arith}
-use borrow.Author.Rules.{rules}
-use Rattle.laws.specs.Tab.{tab, upto}
 use Rattle.laws.proofs.Tab.{fill_start}
 use Rattle.table.specs.Model.{limit, occurs_at}
 use Rattle.blocks.proofs.Tables.{own_row, old_row, own_next, own_end}

@@ -1,14 +1,9 @@
 -- `reach::joined` fills one place after another from the two rows.
-use mathlib.Core.Path.{◌≡◌, ◌∙◌}
-use mathlib.Core.List.{List}
-use Prim.Native.Nat.{ℕ, ◌-◌, ◌≤◌}
+use mathlib.Core.Path.{◌∙◌}
+use Prim.Native.Nat.{ℕ}
 use native.Mathlib.Omega.{arith}
-use lib.ListN.{get_or}
-use borrow.Author.Rules.{rules}
-use Rattle.laws.specs.Tab.{tab, upto}
 use Rattle.laws.proofs.Tab.{fill_start, replicate_tab}
 use Rattle.table.specs.Model.{limit}
-use Rattle.blocks.specs.Steps.{either}
 use Rattle.blocks.proofs.Tables.{fill_next, fill_done}
 use Rattle.blocks.proofs.reach.joined.Invariants.{one, nothing}
 use Rattle.blocks.proofs.reach.joined.Goals as goal
@@ -20,9 +15,9 @@ pub loop-g-preserved : goal.loop-g-preserved
 loop-g-preserved c =
     let a = c.args in
     let loop = c.loop-g in
-    (omega arith, fill_next limit loop.g (one a.t1 a.t2) nothing _ _ loop.invariant.1 c.either_of.ensures (omega arith))
+    (omega arith, fill_next limit loop.g (one a.row a.other) nothing _ _ loop.invariant.1 c.either_of.ensures (omega arith))
 
 pub returns : goal.returns
 returns c =
     let a = c.args in
-    fill_done limit c.loop-g.g (one a.t1 a.t2) nothing _ c.loop-g.invariant.1 (omega arith)
+    fill_done limit c.loop-g.g (one a.row a.other) nothing _ c.loop-g.invariant.1 (omega arith)

@@ -1,15 +1,11 @@
 -- `reach::joined` fills one place after another from the two rows.
-use mathlib.Core.Path.{◌≡◌, ◌∙◌}
+use mathlib.Core.Path.{◌≡◌}
 use mathlib.Core.List.{List}
 use Prim.Native.Nat.{ℕ, ◌-◌, ◌≤◌}
-use native.Mathlib.Omega.{arith}
 use lib.ListN.{get_or}
-use borrow.Author.Rules.{rules}
 use Rattle.laws.specs.Tab.{tab, upto}
-use Rattle.laws.proofs.Tab.{fill_start, replicate_tab}
 use Rattle.table.specs.Model.{limit}
 use Rattle.blocks.specs.Steps.{either}
-use Rattle.blocks.proofs.Tables.{fill_next, fill_done}
 use Rattle.blocks.proofs.reach.joined.Given as goal
 
 abbrev pub one : List ℕ → List ℕ → ℕ → ℕ

@@ -1,12 +1,9 @@
 -- `reach::reach` lets one equation after another through; when all are let through, every way is found.
 use mathlib.Core.Path.{◌≡◌}
 use Prim.Native.Nat.{◌-◌, ◌≤◌}
-use native.Mathlib.Omega.{arith}
-use borrow.Author.Rules.{rules}
 use Rattle.laws.specs.Count.{bit}
 use Rattle.table.specs.Model.{occurs_at, square}
 use Rattle.blocks.specs.Steps.{ways}
-use Rattle.blocks.proofs.ReachTables.{through_next, through_end}
 use Rattle.blocks.proofs.reach.reach.Given as goal
 
 abbrev pub invariant-loop-k : goal.invariant-loop-k

@@ -9,10 +9,10 @@ use Rattle.blocks.proofs.reach.row_through.Goals as goal
 pub returns-then-row-k-eq0 : goal.returns-then-row-k-eq0
 returns-then-row-k-eq0 c =
     let a = c.args in
-    let all : length a.t1 ≡ limit = search rules in
-    row_left a.t1 a.other a.k all c.if-row-k-eq0.true
+    let all : length a.row ≡ limit = search rules in
+    row_left a.row a.other a.k all c.if-row-k-eq0.true
 
 pub returns-else-row-k-eq0 : goal.returns-else-row-k-eq0
 returns-else-row-k-eq0 c =
     let a = c.args in
-    row_joined a.t1 a.other a.k c.if-row-k-eq0.false c.joined.ensures
+    row_joined a.row a.other a.k c.if-row-k-eq0.false c.joined.ensures

@@ -1,15 +1,11 @@
 -- `reach::through` fills one row after another with what the row reaches through the given equation besides.
-use mathlib.Core.Path.{◌≡◌, ◌∙◌}
+use mathlib.Core.Path.{◌≡◌}
 use mathlib.Core.List.{List}
 use Prim.Native.Nat.{ℕ, ◌-◌, ◌≤◌}
-use native.Mathlib.Omega.{arith}
 use lib.ListN.{replicate}
-use borrow.Author.Rules.{rules}
 use Rattle.laws.specs.Tab.{tab, upto}
-use Rattle.laws.proofs.Tab.{fill_start, replicate_tab}
 use Rattle.table.specs.Model.{limit}
 use Rattle.blocks.specs.Steps.{through_code}
-use Rattle.blocks.proofs.Tables.{fill_next, fill_done}
 use Rattle.blocks.proofs.reach.through.Given as goal
 
 abbrev pub row_of : List (List ℕ) → ℕ → ℕ → List ℕ

@@ -1,8 +1,7 @@
 -- `card::lay::count_codes` meets its contract: the count so far and what is to come make the whole.
 use Prim.Native.Nat.{◌-◌}
-use native.Mathlib.Omega.{arith}
 use lib.ListN.{length}
-use Rattle.card.proofs.WriteLaws.{CountingCodes, counting_start, counting_more, counting_same, counting_end}
+use Rattle.card.proofs.WriteLaws.{CountingCodes}
 use Rattle.card.proofs.lay.count_codes.Given as goal
 
 abbrev pub invariant-loop-cell : goal.invariant-loop-cell

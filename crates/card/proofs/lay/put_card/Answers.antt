@@ -2,7 +2,6 @@
 use mathlib.Core.Path.{◌∙◌, ap}
 use mathlib.Core.List.{◌++◌}
 use native.Mathlib.Omega.{arith}
-use borrow.Author.Rules.{rules}
 use Rattle.card.specs.Text.{rig_key, equations_key, unknowns_key, end_key, dec}
 use Rattle.card.specs.Card.{line_of, occurs_lines}
 use Rattle.card.proofs.PutLaws.{laid_then}

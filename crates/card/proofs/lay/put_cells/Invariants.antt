@@ -1,9 +1,7 @@
 -- `card::lay::put_cells` meets its contract: byte by byte of the table, one line behind another.
 use Prim.Native.Nat.{◌-◌}
-use native.Mathlib.Omega.{arith}
 use lib.ListN.{length}
-use Rattle.card.proofs.PutLaws.{laid_length}
-use Rattle.card.proofs.WriteLaws.{Celling, celling_start, celling_step, celling_end}
+use Rattle.card.proofs.WriteLaws.{Celling}
 use Rattle.card.proofs.lay.put_cells.Given as goal
 
 abbrev pub invariant-loop-cell : goal.invariant-loop-cell

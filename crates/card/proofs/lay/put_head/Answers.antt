@@ -1,6 +1,5 @@
 -- `card::lay::put_head` meets its contract: three lines, one behind another.
 use native.Mathlib.Omega.{arith}
-use borrow.Author.Rules.{rules}
 use Rattle.card.specs.Text.{equations_key}
 use Rattle.card.proofs.PutLaws.{laid_then}
 use Rattle.card.proofs.WriteLaws.{key_line_short}

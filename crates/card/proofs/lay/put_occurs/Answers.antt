@@ -1,7 +1,6 @@
 -- `card::lay::put_occurs` meets its contract: its parts, one behind another.
 use native.Mathlib.Omega.{arith}
 use mathlib.Core.List.{[], ◌∷◌}
-use borrow.Author.Rules.{rules}
 use lib.ListN.{length-append}
 use Rattle.card.specs.Text.{comma, dec}
 use Rattle.card.proofs.PutLaws.{laid_then, dec_short}

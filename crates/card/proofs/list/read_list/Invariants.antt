@@ -1,11 +1,7 @@
 -- `card::list::read_list` meets its contract: the loop keeps `Collecting`, that the answer is that of the lines from here on with what was read so far.
-use mathlib.Core.Path.{sym, ◌∙◌}
 use Prim.Native.Nat.{◌-◌}
-use native.Mathlib.Omega.{arith}
-use borrow.Author.Rules.{rules}
 use lib.ListN.{length}
-use Rattle.card.proofs.ListLaws.{Collecting, collecting_start, collecting_next, collecting_refused, collecting_ended, turn_next}
-use Rattle.card.proofs.ListLaws.{Taking, Onward, place_fits, cell_fits}
+use Rattle.card.proofs.ListLaws.{Collecting}
 use Rattle.card.proofs.list.read_list.Given as goal
 
 abbrev pub invariant-loop-number : goal.invariant-loop-number

@@ -1,8 +1,7 @@
 -- `card::put::put_all` meets its contract: byte by byte, one run behind another.
 use Prim.Native.Nat.{◌-◌}
-use native.Mathlib.Omega.{arith}
 use lib.ListN.{length}
-use Rattle.card.proofs.PutLaws.{Laying, laying_start, laying_step, laying_end, laid_length}
+use Rattle.card.proofs.PutLaws.{Laying}
 use Rattle.card.proofs.put.put_all.Given as goal
 
 abbrev pub invariant-loop-i : goal.invariant-loop-i

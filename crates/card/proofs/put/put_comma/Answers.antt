@@ -1,6 +1,5 @@
 -- `card::put::put_comma` meets its contract: a number, and a comma behind it.
 use native.Mathlib.Omega.{arith}
-use borrow.Author.Rules.{rules}
 use Rattle.card.proofs.PutLaws.{laid_then, dec_short}
 use Rattle.card.proofs.put.put_comma.Goals as goal
 

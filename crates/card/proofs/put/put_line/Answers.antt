@@ -1,6 +1,5 @@
 -- `card::put::put_line` meets its contract: the key, the number and the LF, one behind another.
 use native.Mathlib.Omega.{arith}
-use borrow.Author.Rules.{rules}
 use Rattle.card.proofs.PutLaws.{laid_then, dec_short}
 use Rattle.card.proofs.put.put_line.Goals as goal
 

@@ -1,11 +1,9 @@
 -- `card::text::line_at` meets its contract: as long as no LF was met, the line's end from here is its end from the start.
-use mathlib.Core.Path.{◌≡◌, refl, sym, ◌∙◌}
+use mathlib.Core.Path.{◌≡◌}
 use Prim.Native.Nat.{◌-◌}
-use native.Mathlib.Omega.{arith}
 use lib.ListN.{length, drop}
 use Rattle.card.specs.Text.{lines_of}
 use Rattle.card.specs.Steps.{end_of}
-use Rattle.card.proofs.TextLaws.{end_here, end_on, end_none}
 use Rattle.card.proofs.text.line_at.Given as goal
 
 abbrev pub invariant-loop-end : goal.invariant-loop-end

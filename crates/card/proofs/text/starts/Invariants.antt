@@ -1,11 +1,8 @@
 -- `card::text::starts` meets its contract: as far as the bytes agree, what is left of the key is to stand in front of what is left of the text.
-use mathlib.Core.Path.{◌≡◌, refl, sym, ◌∙◌}
+use mathlib.Core.Path.{◌≡◌}
 use Prim.Native.Nat.{◌≤◌, ◌-◌}
-use native.Mathlib.Omega.{arith}
 use lib.ListN.{length, drop}
-use borrow.Author.Tests.{eq-eqb, ne_eqb}
 use Rattle.card.specs.Text.{begins}
-use Rattle.card.proofs.TextLaws.{begins_short, begins_at, begins_done}
 use Rattle.card.proofs.text.starts.Given as goal
 
 abbrev pub invariant-loop-i : goal.invariant-loop-i

@@ -1,8 +1,5 @@
 -- `figures::index` keeps the largest of the counts that it has passed.
-use Prim.Native.Nat.{◌-◌, ◌≤◌}
 use native.Mathlib.Numerals.{add-one}
-use Rattle.counts.specs.Fit.{largest}
-use Rattle.laws.specs.Tab.{number_at}
 use mathlib.Core.Path.{◌≡◌}
 use native.Mathlib.Omega.{arith}
 use borrow.Author.Rules.{rules}

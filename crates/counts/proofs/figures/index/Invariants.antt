@@ -1,11 +1,8 @@
 -- `figures::index` keeps the largest of the counts that it has passed.
 use Prim.Native.Nat.{◌-◌, ◌≤◌}
-use native.Mathlib.Numerals.{add-one}
 use Rattle.counts.specs.Fit.{largest}
 use Rattle.laws.specs.Tab.{number_at}
 use mathlib.Core.Path.{◌≡◌}
-use native.Mathlib.Omega.{arith}
-use borrow.Author.Rules.{rules}
 use Rattle.counts.proofs.figures.index.Given as goal
 
 abbrev pub invariant-loop-e : goal.invariant-loop-e

@@ -1,8 +1,5 @@
 -- `figures::total` keeps the sum of the numbers that it has passed, at most 255 for each.
-use Prim.Native.Nat.{◌-◌, ◌*◌, ◌≤◌}
 use native.Mathlib.Numerals.{add-one}
-use Rattle.laws.specs.Count.{sum}
-use Rattle.laws.specs.Tab.{number_at}
 use mathlib.Core.Path.{◌≡◌}
 use native.Mathlib.Omega.{arith}
 use borrow.Author.Rules.{rules}

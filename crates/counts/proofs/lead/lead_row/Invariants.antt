@@ -1,14 +1,9 @@
 -- `lead::lead_row` fills one place after another from the equation's row; beyond the last unknown the zeros of the start stay.
-use mathlib.Core.Path.{◌≡◌, ◌∙◌}
+use mathlib.Core.Path.{◌≡◌}
 use mathlib.Core.List.{List}
 use Prim.Native.Nat.{ℕ, ◌-◌, ◌≤◌}
-use native.Mathlib.Omega.{arith}
-use lib.Dec.{ltb}
-use borrow.Author.Rules.{rules}
 use Rattle.laws.specs.Count.{bit}
 use Rattle.laws.specs.Tab.{tab, upto}
-use Rattle.laws.proofs.Tab.{fill_start, fill_step, replicate_tab, tab_ext}
-use Rattle.laws.proofs.Tests.{test}
 use Rattle.table.specs.Model.{limit}
 use Rattle.counts.specs.Work.{leading_at}
 use Rattle.counts.proofs.lead.lead_row.Given as goal

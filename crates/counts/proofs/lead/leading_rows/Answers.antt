@@ -1,18 +1,15 @@
 -- `lead::leading_rows` fills one row after another; beyond the last equation the zeros of the start stay.
-use mathlib.Core.Bool.{◌&&◌}
 use mathlib.Core.List.{List}
-use Prim.Native.Nat.{ℕ, ◌-◌, ◌≤◌}
+use Prim.Native.Nat.{ℕ, ◌-◌}
 use lib.Dec.{ltb}
 use lib.ListN.{replicate}
-use Rattle.laws.specs.Count.{bit}
 use Rattle.laws.specs.Tab.{tab, upto}
 use Rattle.laws.proofs.Tests.{test}
 use Rattle.laws.proofs.Tab.{fill_start, fill_step, replicate_tab, tab_ext}
 use Rattle.table.specs.Model.{limit}
-use Rattle.counts.specs.Work.{leading_at, leading_rows}
+use Rattle.counts.specs.Work.{leading_rows}
 use mathlib.Core.Path.{◌≡◌, ◌∙◌}
 use native.Mathlib.Omega.{arith}
-use borrow.Author.Rules.{rules}
 use Rattle.counts.proofs.lead.leading_rows.Invariants.{row_at, zeros}
 use Rattle.counts.proofs.lead.leading_rows.Goals as goal
 

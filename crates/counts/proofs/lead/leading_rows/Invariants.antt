@@ -6,13 +6,9 @@ use lib.Dec.{ltb}
 use lib.ListN.{replicate}
 use Rattle.laws.specs.Count.{bit}
 use Rattle.laws.specs.Tab.{tab, upto}
-use Rattle.laws.proofs.Tests.{test}
-use Rattle.laws.proofs.Tab.{fill_start, fill_step, replicate_tab, tab_ext}
 use Rattle.table.specs.Model.{limit}
-use Rattle.counts.specs.Work.{leading_at, leading_rows}
-use mathlib.Core.Path.{◌≡◌, ◌∙◌}
-use native.Mathlib.Omega.{arith}
-use borrow.Author.Rules.{rules}
+use Rattle.counts.specs.Work.{leading_at}
+use mathlib.Core.Path.{◌≡◌}
 use Rattle.counts.proofs.lead.leading_rows.Given as goal
 
 abbrev pub row_at : ℕ → List (List ℕ) → List ℕ → List ℕ → ℕ → List ℕ

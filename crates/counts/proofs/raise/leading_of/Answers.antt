@@ -1,5 +1,4 @@
 -- `raise::leading_of`: the tops of the counts, and the leading occurrences of both.
-use borrow.Author.Rules.{rules}
 use Rattle.counts.proofs.raise.leading_of.Goals as goal
 
 pub returns : goal.returns

@@ -1,14 +1,10 @@
 -- `raise::least`: as many equations as can be are paired, then whoever the next one asked is raised, and so on; a raise keeps what is kept and brings the
 -- sums nearer. With all equations paired what is kept is the answer.
-use Prim.Native.Nat.{◌-◌, ◌<◌, ◌≤◌}
-use native.Mathlib.Omega.{arith}
-use borrow.Author.Rules.{rules}
+use Prim.Native.Nat.{◌-◌, ◌≤◌}
 use Rattle.laws.specs.Count.{sum}
-use Rattle.table.specs.Model.{occurs_at}
-use Rattle.counts.specs.Work.{high_at, tops_of, leading_rows}
+use Rattle.counts.specs.Work.{high_at}
 use Rattle.laws.specs.Tab.{number_at}
-use Rattle.counts.specs.Kept.{KeptIn, Went}
-use Rattle.counts.proofs.Work.{begin_in, small_in, to_paired, from_paired, raise_in, nearer_in}
+use Rattle.counts.specs.Kept.{KeptIn}
 use Rattle.counts.proofs.raise.least.Given as goal
 
 abbrev pub invariant-loop-paired : goal.invariant-loop-paired

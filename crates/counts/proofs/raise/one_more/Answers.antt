@@ -1,7 +1,6 @@
 -- `raise::one_more` adds 1 by the test of the mark.
 use Rattle.laws.proofs.Sum.{bit_true, bit_false}
 use native.Mathlib.Omega.{arith}
-use borrow.Author.Rules.{rules}
 use Rattle.counts.proofs.raise.one_more.Goals as goal
 
 pub returns-then-asked : goal.returns-then-asked

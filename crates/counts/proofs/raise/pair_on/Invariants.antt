@@ -1,15 +1,8 @@
 -- `raise::pair_on`: one search after the other, by the laws of proofs/Pairs.
-use mathlib.Core.Path.{◌≡◌}
-use mathlib.Core.Bool.{false}
 use Prim.Native.Nat.{◌-◌, ◌≤◌}
-use native.Mathlib.Omega.{arith}
-use lib.ListN.{replicate}
-use borrow.Author.Rules.{rules}
-use Rattle.table.specs.Model.{limit, occurs_at}
-use Rattle.pairing.specs.Holders.{held, Searched}
-use Rattle.pairing.proofs.Searching.{widen}
+use Rattle.table.specs.Model.{occurs_at}
+use Rattle.pairing.specs.Holders.{held}
 use Rattle.counts.specs.Kept.{Paired}
-use Rattle.counts.proofs.Pairs.{may_search, paired_next, went_all, went_some}
 use Rattle.counts.proofs.raise.pair_on.Given as goal
 
 abbrev pub invariant-loop-f : goal.invariant-loop-f

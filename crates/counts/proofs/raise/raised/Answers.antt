@@ -1,10 +1,5 @@
 -- `raise::raised` fills one place after another; beyond the last equation the zeros of the start stay.
-use mathlib.Core.Bool.{Bool}
-use mathlib.Core.List.{List}
-use Prim.Native.Nat.{ℕ, ◌+◌, ◌-◌, ◌≤◌}
-use Rattle.laws.specs.Count.{bit}
-use Rattle.laws.specs.Marks.{marked}
-use Rattle.laws.specs.Tab.{tab, upto, number_at}
+use Prim.Native.Nat.{ℕ}
 use Rattle.laws.proofs.Tab.{fill_start, fill_step, replicate_tab}
 use Rattle.table.specs.Model.{limit}
 use mathlib.Core.Path.{◌≡◌, ◌∙◌}

@@ -5,11 +5,8 @@ use Prim.Native.Nat.{ℕ, ◌+◌, ◌-◌, ◌≤◌}
 use Rattle.laws.specs.Count.{bit}
 use Rattle.laws.specs.Marks.{marked}
 use Rattle.laws.specs.Tab.{tab, upto, number_at}
-use Rattle.laws.proofs.Tab.{fill_start, fill_step, replicate_tab}
 use Rattle.table.specs.Model.{limit}
-use mathlib.Core.Path.{◌≡◌, ◌∙◌}
-use native.Mathlib.Omega.{arith}
-use borrow.Author.Rules.{rules}
+use mathlib.Core.Path.{◌≡◌}
 use Rattle.counts.proofs.raise.raised.Given as goal
 
 abbrev pub more : List ℕ → List Bool → ℕ → ℕ

@@ -1,7 +1,6 @@
 -- `tops::lifted` is the definition's pick, by the test of the code.
 use native.Mathlib.Omega.{arith}
 use borrow.Author.Tests.{eq-eqb, ne_eqb}
-use borrow.Author.Rules.{rules}
 use Rattle.counts.proofs.tops.lifted.Goals as goal
 
 pub returns-then-code-eq0 : goal.returns-then-code-eq0

@@ -1,7 +1,6 @@
 -- `tops::top` keeps the largest order + count over the equations that it has passed.
-use Prim.Native.Nat.{◌-◌, ◌≤◌}
+use Prim.Native.Nat.{◌-◌}
 use native.Mathlib.Numerals.{add-one}
-use Rattle.counts.specs.Work.{high_at}
 use mathlib.Core.Path.{◌≡◌}
 use native.Mathlib.Omega.{arith}
 use borrow.Author.Rules.{rules}

@@ -1,12 +1,9 @@
 -- `tops::tops` fills one place after another; beyond the last unknown the zeros of the start stay.
 use Prim.Native.Nat.{ℕ, ◌-◌, ◌≤◌}
 use Rattle.laws.specs.Tab.{tab, upto}
-use Rattle.laws.proofs.Tab.{fill_start, fill_step, replicate_tab}
 use Rattle.table.specs.Model.{limit}
 use Rattle.counts.specs.Work.{high_at}
-use mathlib.Core.Path.{◌≡◌, ◌∙◌}
-use native.Mathlib.Omega.{arith}
-use borrow.Author.Rules.{rules}
+use mathlib.Core.Path.{◌≡◌}
 use Rattle.counts.proofs.tops.tops.Given as goal
 
 abbrev pub nothing : ℕ → ℕ

@@ -1,10 +1,8 @@
 -- `first::all_settled` settles one equation after the other.
 use mathlib.Core.Path.{◌≡◌}
-use Prim.Native.Nat.{◌-◌, ◌≤◌}
+use Prim.Native.Nat.{◌-◌}
 use native.Mathlib.Omega.{arith}
 use borrow.Author.Rules.{rules}
-use Rattle.table.specs.Model.{occurs_at}
-use Rattle.pairing.specs.Choosing.{Settled}
 use Rattle.pairing.proofs.Settling.{settle_start}
 use Rattle.pairing.proofs.first.all_settled.Goals as goal
 

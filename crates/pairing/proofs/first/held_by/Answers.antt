@@ -1,12 +1,10 @@
 -- `first::held_by` passes the unknowns in turn: none passed is held by the equation.
-use mathlib.Core.Path.{◌≡◌}
-use mathlib.Core.Bool.{true}
-use Prim.Native.Nat.{ℕ, suc, ◌-◌, ◌<◌, ◌≤◌}
+use Prim.Native.Nat.{suc, ◌-◌}
 use native.Mathlib.Omega.{arith}
 use borrow.Author.Count.{below_more}
 use borrow.Author.Rules.{rules}
 use borrow.Author.Tests.{eqb-true}
-use Rattle.pairing.specs.Holders.{holder, held}
+use Rattle.pairing.specs.Holders.{holder}
 use Rattle.pairing.proofs.Trying.{held_hit, held_none}
 use Rattle.pairing.proofs.first.held_by.Goals as goal
 
@@ -19,12 +17,11 @@ returns-then-holder-e c =
     held_hit c.loop-u.u c.at.result.0 c.at.ensures (search rules) (omega arith)
 
 pub loop-u-preserved : goal.loop-u-preserved
-loop-u-preserved c =
-    (
-      omega arith,
-      below_more _ _ c.loop-u.invariant.1
-          (λ t. c.if-holder-e.false (let y = eqb-true (holder c.args.holders c.loop-u.u) (suc (c.args.e.0 - 1)) t in omega arith)),
-    )
+loop-u-preserved c = (
+  omega arith,
+  below_more _ _ c.loop-u.invariant.1
+      (λ t. c.if-holder-e.false (let y = eqb-true (holder c.args.holders c.loop-u.u) (suc (c.args.e.0 - 1)) t in omega arith)),
+)
 
 pub returns : goal.returns
 returns c = held_none c.loop-u.u c.loop-u-test.false c.loop-u.invariant.1

@@ -1,13 +1,8 @@
 -- `first::held_by` passes the unknowns in turn: none passed is held by the equation.
 use mathlib.Core.Path.{◌≡◌}
 use mathlib.Core.Bool.{true}
-use Prim.Native.Nat.{ℕ, suc, ◌-◌, ◌<◌, ◌≤◌}
-use native.Mathlib.Omega.{arith}
-use borrow.Author.Count.{below_more}
-use borrow.Author.Rules.{rules}
-use borrow.Author.Tests.{eqb-true}
-use Rattle.pairing.specs.Holders.{holder, held}
-use Rattle.pairing.proofs.Trying.{held_hit, held_none}
+use Prim.Native.Nat.{ℕ, ◌-◌, ◌<◌, ◌≤◌}
+use Rattle.pairing.specs.Holders.{held}
 use Rattle.pairing.proofs.first.held_by.Given as goal
 
 abbrev pub invariant-loop-u : goal.invariant-loop-u

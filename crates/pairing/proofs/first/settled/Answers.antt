@@ -1,10 +1,9 @@
 -- `first::settled` tries one unknown after the other: no lower one can be had. Some one can: what the equation holds.
 use mathlib.Core.Path.{◌≡◌}
-use Prim.Native.Nat.{suc, ◌-◌, ◌≤◌}
+use Prim.Native.Nat.{suc, ◌-◌}
 use native.Mathlib.Omega.{arith}
 use borrow.Author.Rules.{rules}
-use Rattle.table.specs.Model.{occurs_at}
-use Rattle.pairing.proofs.Settling.{NoneBelow, none_next, settle_hit, settle_some}
+use Rattle.pairing.proofs.Settling.{none_next, settle_hit, settle_some}
 use Rattle.pairing.proofs.first.settled.Goals as goal
 
 pub loop-u-init : goal.loop-u-init

@@ -1,28 +1,16 @@
 -- `first::trial`, by the laws of proofs/Trying: the unknown is absent, or held by an equation up to this one, or its holder is asked to move on.
 use mathlib.Core.Path.{◌≡◌, sym, ap, ◌∙◌}
-use mathlib.Core.Bool.{true}
-use Prim.Native.Nat.{suc, ◌-◌, ◌<◌}
+use Prim.Native.Nat.{suc, ◌-◌}
 use native.Mathlib.Omega.{arith}
 use borrow.Author.Rules.{rules}
-use borrow.Author.Tests.{not-true, not-false}
 use Rattle.table.specs.Model.{occurs_at}
-use Rattle.pairing.specs.Holders.{held}
 use Rattle.pairing.proofs.Searching.{widen}
 use Rattle.pairing.proofs.Trying.{marks, owns, Asked, swapped_asks, swapped_tried, tried_absent, tried_held}
 use Rattle.pairing.proofs.first.trial.Goals as goal
-
--- the equation's own unknown
-own : (c : tie.After-held-by)
-    → (c.held_by.result.0 ≡ 0 → ⊥)
-    × ((c.held_by.result.0 - 1 < c.args.n)
-    × (held
-    c.args.holders
-    (c.args.e.0 - 1)
-    (c.held_by.result.0 - 1) ≡ true))
-own c = owns c.requires.5 (search rules) c.held_by.ensures
+use Rattle.pairing.proofs.first.trial.Goals.{After-up_to}
 
 -- the holder of the unknown stands after the equation
-asked : (c : tie.After-up-to) → Asked
+asked : (c : After-up_to) → Asked
     c.args.n
     (occurs_at c.args.table.now)
     c.args.holders
@@ -38,33 +26,34 @@ asked c =
       unknown = search rules;
       all = search rules;
       number = omega arith;
-      occurs = rw c.place-at.ensures (sym c.occurs.ensures ∙ not-false c.occurs.result c.if-not-occurs.false);
-      own = rw c.place-own.ensures (own c.before).1.1;
+      occurs = rw c.place-at.ensures (sym c.occurs.ensures ∙ c.if-not-occurs.false);
+      own = rw c.place-own.ensures (owns c.requires.5 (search rules) c.held_by.ensures).1.1;
       later = omega (arith, c.if-holder-e.false);
     }
 
-marks-up : (c : tie.After-up-to) → c.up_to.result ≡ marks (suc (c.args.e.0 - 1))
+marks-up : (c : After-up_to) → c.up_to.result ≡ marks (suc (c.args.e.0 - 1))
 marks-up c =
     let number : c.args.e.0 ≡ suc (c.args.e.0 - 1) = omega arith in
     c.up_to.ensures ∙ ap marks number
 
 pub returns-then-not-occurs : goal.returns-then-not-occurs
-returns-then-not-occurs c = tried_absent (search rules) (sym c.occurs.ensures ∙ not-true c.occurs.result c.if-not-occurs.true)
+returns-then-not-occurs c = tried_absent (search rules) (sym c.occurs.ensures ∙ c.if-not-occurs.true)
 
 pub returns-then-holder-e : goal.returns-then-holder-e
 returns-then-holder-e c =
     rw (← c.place-at.ensures) (tried_held c.requires.5 (search rules) (search rules) (omega arith) c.if-holder-e.true)
 
 pub place-own-requires : goal.place-own-requires
-place-own-requires c = let o = (own c).0 in omega arith
+place-own-requires c = let o = (owns c.requires.5 (search rules) c.held_by.ensures).0 in omega arith
 
 pub bounds-given-own : goal.bounds-given-own
-bounds-given-own c = let o = (own c.before).1.0 in omega arith
+bounds-given-own c = let o = (owns c.requires.5 (search rules) c.held_by.ensures).1.0 in omega arith
 
 pub search-answer-requires : goal.search-answer-requires
 search-answer-requires c = let a = asked c in rw (marks-up c) (omega arith, widen (swapped_asks a))
 
 pub returns : goal.returns
 returns c =
-    let a = asked c in
-    rw (← c.place-at.ensures) (swapped_tried a ((rw (marks-up c) at c.search-answer.ensures) c.args.n (swapped_asks a)))
+    let p = (goal.at.returns c).After-up_to in
+    let a = asked p in
+    rw (← c.place-at.ensures) (swapped_tried a ((rw (marks-up p) at c.search-answer.ensures) c.args.n (swapped_asks a)))

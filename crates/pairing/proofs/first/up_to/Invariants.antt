@@ -1,9 +1,7 @@
 -- `first::up_to` marks one equation after the other.
 use mathlib.Core.Path.{◌≡◌}
 use Prim.Native.Nat.{◌-◌, ◌≤◌}
-use native.Mathlib.Omega.{arith}
-use borrow.Author.Rules.{rules}
-use Rattle.pairing.proofs.Trying.{marks, marks_start, marks_step}
+use Rattle.pairing.proofs.Trying.{marks}
 use Rattle.pairing.proofs.first.up_to.Given as goal
 
 abbrev pub invariant-loop-i : goal.invariant-loop-i

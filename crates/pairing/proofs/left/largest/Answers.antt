@@ -1,8 +1,7 @@
 -- `left::largest`: one search for each equation, by the laws of proofs/Pass.
 use mathlib.Core.Path.{◌≡◌, ap}
 use mathlib.Core.Bool.{false}
-use mathlib.Core.Logic.{⊎_elim}
-use Prim.Native.Nat.{◌-◌, ◌≤◌}
+use Prim.Native.Nat.{◌-◌}
 use native.Mathlib.Omega.{arith}
 use lib.ListN.{replicate}
 use borrow.Author.Rules.{rules}
@@ -11,11 +10,12 @@ use Rattle.table.specs.Model.{limit, occurs_at}
 use Rattle.table.specs.declared.number.Equation.{Equation}
 use Rattle.pairing.specs.Holders.{Asking}
 use Rattle.pairing.proofs.Searching.{widen}
-use Rattle.pairing.proofs.Pass.{Pass, pass_start, pass_asks, pass_found, pass_nothing, pass_end}
+use Rattle.pairing.proofs.Pass.{pass_start, pass_asks, pass_found, pass_nothing, pass_end}
 use Rattle.pairing.proofs.left.largest.Goals as goal
+use Rattle.pairing.proofs.left.largest.Goals.{After-at, then-answer-ne0, else-answer-ne0}
 
 -- the next equation may search
-asking : (c : tie.After-at invariant-loop decreases-loop) → Asking
+asking : (c : After-at) → Asking
     c.args.equations
     c.args.unknowns
     (occurs_at c.args.table.now)
@@ -34,18 +34,18 @@ loop-e-init c =
     )
 
 pub search-answer-requires : goal.search-answer-requires
-search-answer-requires c = (omega arith, widen (asking c))
+search-answer-requires c = (omega arith, widen (asking (goal.at.search-answer-requires c).After-at))
 
 pub loop-e-preserved : goal.loop-e-preserved
 loop-e-preserved c =
     let r = c.loop-e.invariant in
-    let s = asking c in
+    let s = asking (goal.at.loop-e-preserved c).After-at in
     let place : c.at.result.0 - 1 ≡ c.loop-e.e = omega arith in
     let x = c.search-answer.ensures c.args.equations s in
-    ⊎_elim
-    (λ w. rw (w.2, w.3) (omega arith, pass_found r.1 (rw place at (x.found w.0.taken).0)))
-    (λ w. rw (w.2, w.3) (omega arith, pass_nothing r.1 (rw place at s.asker) (rw place at s.free) (rw place at (x.nothing w.0.left).1)))
-    c.if-answer-ne0.branch
+    elim c.if-answer-ne0.branch [
+      | then-answer-ne0 w ↦ rw (w.holders-is, w.over-is) (omega arith, pass_found r.1 (rw place at (x.found w.if-answer-ne0.true).0))
+      | else-answer-ne0 w ↦ rw (w.holders-is, w.over-is) (omega arith, pass_nothing r.1 (rw place at s.asker) (rw place at s.free) (rw place at (x.nothing w.if-answer-ne0.false).1))
+    ]
 
 pub returns : goal.returns
 returns c = let all : c.loop-e.e ≡ c.args.equations = omega arith in pass_end (rw all at c.loop-e.invariant.1)

@@ -1,15 +1,9 @@
 -- `search::free_unknown` passes the asker's unknowns in turn: no unknown passed is the asker's and free.
-use mathlib.Core.Path.{◌≡◌, sym, ◌∙◌}
+use mathlib.Core.Path.{◌≡◌}
 use mathlib.Core.Bool.{true}
-use mathlib.Core.Logic.{⊎_elim}
 use Prim.Native.Nat.{ℕ, ◌-◌, ◌<◌, ◌≤◌}
-use native.Mathlib.Omega.{arith}
-use borrow.Author.Rules.{rules}
-use borrow.Author.Count.{below_more}
-use Rattle.laws.proofs.Tests.{clash}
 use Rattle.table.specs.Model.{occurs_at}
 use Rattle.pairing.specs.Holders.{holder}
-use Rattle.pairing.proofs.Looking.{free_hit, free_none}
 use Rattle.pairing.proofs.search.free_unknown.Given as goal
 
 abbrev pub invariant-loop-u : goal.invariant-loop-u

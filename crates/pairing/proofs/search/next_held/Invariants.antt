@@ -1,15 +1,7 @@
 -- `search::next_held` passes the asker's unknowns in turn: the holder of each one passed was asked.
-use mathlib.Core.Path.{◌≡◌, sym, ◌∙◌}
-use mathlib.Core.Logic.{⊎_elim}
 use Prim.Native.Nat.{◌-◌}
-use native.Mathlib.Omega.{arith}
-use borrow.Author.Rules.{rules}
-use borrow.Author.Tests.{not-true, not-false}
-use Rattle.laws.specs.Marks.{marked}
-use Rattle.laws.proofs.Tests.{clash}
-use Rattle.table.specs.Model.{Numbered, occurs_at}
-use Rattle.pairing.specs.Holders.{holder}
-use Rattle.pairing.proofs.Looking.{Passed, passed_none, passed_more, next_hit, next_none}
+use Rattle.table.specs.Model.{occurs_at}
+use Rattle.pairing.proofs.Looking.{Passed}
 use Rattle.pairing.proofs.search.next_held.Given as goal
 
 abbrev pub invariant-loop-u : goal.invariant-loop-u

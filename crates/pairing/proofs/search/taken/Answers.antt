@@ -1,6 +1,5 @@
 -- `search::taken` stores the asker as the holder of the free unknown.
 use mathlib.Core.Path.{refl}
-use borrow.Author.Rules.{rules}
 use Rattle.pairing.proofs.search.taken.Goals as goal
 
 pub returns : goal.returns

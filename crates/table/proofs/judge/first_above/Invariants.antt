@@ -1,12 +1,8 @@
 -- `judge::first_above` walks from the front: the first code above 4 of the whole is `at` places before that of what is left.
 use mathlib.Core.Path.{◌≡◌}
 use Prim.Native.Nat.{◌+◌, ◌-◌, ◌≤◌}
-use native.Mathlib.Numerals.{add-one}
-use native.Mathlib.Omega.{arith}
 use lib.ListN.{length, drop}
-use borrow.Author.Rules.{rules}
 use Rattle.table.specs.Model.{first_above}
-use Rattle.table.proofs.Model.{above_here, above_next, above_none}
 use Rattle.table.proofs.judge.first_above.Given as goal
 
 abbrev pub invariant-loop-at : goal.invariant-loop-at

@@ -1,5 +1,4 @@
 -- `judge::in_limits` is the definition's test, each half judged by `counted`.
-use borrow.Author.Rules.{rules}
 use Rattle.laws.proofs.Tests.{and_then, and_fails}
 use Rattle.table.proofs.judge.in_limits.Goals as goal
 

@@ -2,7 +2,6 @@
 use mathlib.Core.Path.{refl, sym, ◌∙◌}
 use native.Mathlib.Nat.{mul-le-mul}
 use native.Mathlib.Omega.{arith}
-use borrow.Author.Rules.{rules}
 use Rattle.laws.proofs.Tests.{and_then, and_fails}
 use Rattle.table.proofs.Model.{limits}
 use Rattle.table.proofs.judge.well_sized.Goals as goal

@@ -1,5 +1,4 @@
 -- `rows::code` reads the place of the equation's row and the unknown's column.
-use borrow.Author.Rules.{rules}
 use Rattle.table.proofs.rows.code.Goals as goal
 
 pub returns : goal.returns

@@ -1,12 +1,9 @@
 -- `rows::column` fills one place after another with what each row has at the unknown's place.
 use mathlib.Core.Path.{◌≡◌, ◌∙◌}
-use mathlib.Core.List.{List}
-use Prim.Native.Nat.{ℕ, ◌-◌, ◌≤◌}
+use Prim.Native.Nat.{ℕ}
 use native.Mathlib.Omega.{arith}
-use borrow.Author.Rules.{rules}
-use Rattle.laws.specs.Tab.{tab, upto}
 use Rattle.laws.proofs.Tab.{fill_start, fill_step, fill_end, replicate_tab}
-use Rattle.table.specs.Model.{limit, code_at}
+use Rattle.table.specs.Model.{limit}
 use Rattle.table.proofs.rows.column.Invariants.{codes, nothing}
 use Rattle.table.proofs.rows.column.Goals as goal
 

@@ -1,14 +1,10 @@
 -- `rows::filled` fills one row after another; beyond the last equation the zeros of the start stay, and the definition has zeros there.
 use mathlib.Core.Path.{◌≡◌, ◌∙◌}
-use mathlib.Core.List.{List}
-use Prim.Native.Nat.{ℕ, ◌-◌, ◌≤◌}
 use native.Mathlib.Omega.{arith}
 use native.Mathlib.Nat.{mul-le-mul}
 use lib.ListN.{replicate}
-use borrow.Author.Rules.{rules}
-use Rattle.laws.specs.Tab.{tab, upto}
 use Rattle.laws.proofs.Tab.{fill_start, fill_step, replicate_tab}
-use Rattle.table.specs.Model.{limit, lent_code}
+use Rattle.table.specs.Model.{limit}
 use Rattle.table.proofs.Model.{sized, row_within, lent_row_is, lent_rows_end}
 use Rattle.table.proofs.rows.filled.Invariants.{row_at, zeros}
 use Rattle.table.proofs.rows.filled.Goals as goal

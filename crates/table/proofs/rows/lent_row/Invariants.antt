@@ -1,12 +1,9 @@
 -- `rows::lent_row` fills one place after another; beyond the last unknown the zeros of the start stay.
-use mathlib.Core.Path.{◌≡◌, ◌∙◌}
+use mathlib.Core.Path.{◌≡◌}
 use Prim.Native.Nat.{ℕ, ◌+◌, ◌-◌, ◌≤◌}
-use native.Mathlib.Omega.{arith}
 use mathlib.Core.List.{List}
 use lib.ListN.{get_or}
-use borrow.Author.Rules.{rules}
 use Rattle.laws.specs.Tab.{tab, upto}
-use Rattle.laws.proofs.Tab.{fill_start, fill_step, replicate_tab}
 use Rattle.table.specs.Model.{limit}
 use Rattle.table.proofs.rows.lent_row.Given as goal
 

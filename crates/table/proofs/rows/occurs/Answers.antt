@@ -1,5 +1,4 @@
 -- `rows::occurs` tests the code that `code` reads.
-use borrow.Author.Rules.{rules}
 use Rattle.table.proofs.rows.occurs.Goals as goal
 
 pub returns : goal.returns

@@ -1,5 +1,4 @@
 -- `rows::row` reads the place of the equation's row.
-use borrow.Author.Rules.{rules}
 use Rattle.table.proofs.rows.row.Goals as goal
 
 pub returns : goal.returns

@@ -1,13 +1,10 @@
 -- `rows::transposed` fills one row after another with the table's columns.
 use mathlib.Core.Path.{◌≡◌, ◌∙◌}
-use mathlib.Core.List.{List}
-use Prim.Native.Nat.{ℕ, ◌-◌, ◌≤◌}
+use Prim.Native.Nat.{◌-◌}
 use native.Mathlib.Omega.{arith}
 use lib.ListN.{replicate}
-use borrow.Author.Rules.{rules}
-use Rattle.laws.specs.Tab.{tab, upto}
 use Rattle.laws.proofs.Tab.{fill_start, fill_step, fill_end, replicate_tab}
-use Rattle.table.specs.Model.{limit, code_at}
+use Rattle.table.specs.Model.{limit}
 use Rattle.table.proofs.rows.transposed.Invariants.{columnAt, zeros}
 use Rattle.table.proofs.rows.transposed.Goals as goal
 

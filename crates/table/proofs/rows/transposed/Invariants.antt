@@ -1,12 +1,9 @@
 -- `rows::transposed` fills one row after another with the table's columns.
-use mathlib.Core.Path.{◌≡◌, ◌∙◌}
+use mathlib.Core.Path.{◌≡◌}
 use mathlib.Core.List.{List}
 use Prim.Native.Nat.{ℕ, ◌-◌, ◌≤◌}
-use native.Mathlib.Omega.{arith}
 use lib.ListN.{replicate}
-use borrow.Author.Rules.{rules}
 use Rattle.laws.specs.Tab.{tab, upto}
-use Rattle.laws.proofs.Tab.{fill_start, fill_step, fill_end, replicate_tab}
 use Rattle.table.specs.Model.{limit, code_at}
 use Rattle.table.proofs.rows.transposed.Given as goal
 

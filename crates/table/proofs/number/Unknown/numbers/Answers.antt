@@ -1,15 +1,13 @@
 -- `Unknown::numbers` meets its contract: after i turns the first i numbers stand.
 use mathlib.Core.Path.{◌≡◌, ◌∙◌}
-use mathlib.Core.List.{List, map}
-use Prim.Native.Nat.{ℕ, ◌-◌, ◌≤◌}
+use mathlib.Core.List.{map}
+use Prim.Native.Nat.{ℕ}
 use native.Mathlib.Omega.{arith}
 use lib.ListN.{length, length-map, get_or-map}
 use borrow.Author.Rules.{rules}
-use Rattle.laws.specs.Tab.{tab, upto, number_at}
 use Rattle.laws.proofs.Tab.{fill_start, fill_step, filled_list, replicate_tab}
 use Rattle.table.specs.Model.{limit}
 use Rattle.table.specs.Number.{unknown_number}
-use Rattle.table.specs.declared.number.Unknown.{Unknown}
 use Rattle.table.proofs.number.Unknown.numbers.Invariants.{each, nothing}
 use Rattle.table.proofs.number.Unknown.numbers.Goals as goal
 
