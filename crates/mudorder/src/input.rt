@@ -1,6 +1,6 @@
 // Reading an input of unknown length into a buffer, so that an input that was not read whole is never taken for one that was.
 ghost use Rattle.std.specs.Prelude.{length};
-ghost use Rattle.mudorder.specs.Input.{Possible};
+ghost use Rattle.mudorder.specs.Input.{Possible, Given};
 
 use std::io;
 use std::io::Read;
@@ -19,7 +19,8 @@ pub enum Input {
 // Reads until the buffer is full, the input ends or a read fails. On an input that does not wait, a read that has nothing to give yet has failed. One that
 // a signal interrupts would have failed too, but the program handles no signal, so the system takes such a read up again by itself.
 pub fn fill<R: Read>(reader: &mut R, buffer: &mut [u8]) -> Input
-    ensures { Possible (length buffer.old) result }
+    ensures possible { Possible (length buffer.old) result }
+    ensures given { Given (R.remaining reader.old) buffer.new result }
 {
     let mut done = 0;
     while done < buffer.len() {

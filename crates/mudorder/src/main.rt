@@ -5,9 +5,10 @@
 
 mod input;
 
-ghost use Rattle.std.specs.Prelude.{List, ◌++◌, ℕ, ◌≤◌, ◌<◌, length};
-ghost use Rattle.std.specs.Io.{IsPrefixLen};
+ghost use Rattle.std.specs.Prelude.{List, ◌++◌, ℕ, ◌≤◌, ◌<◌, length, take, OnOk, IfErr};
+ghost use Rattle.std.specs.Io.KnownBytes.{Appends};
 ghost use Rattle.report.specs.Printed.{input_limit, Reported};
+ghost use Rattle.mudorder.specs.Answer.{Answered, Unanswered};
 
 use crate::input::{Input, fill};
 use report::{INPUT_LIMIT, TEXT_LIMIT, report};
@@ -33,6 +34,8 @@ fn report_beginning(beginning: &[u8], text: &mut [u8]) -> usize
 // Writes the first bytes of a text.
 fn print<W: Write>(out: &mut W, text: &[u8], count: usize) -> Result<(), Failure>
     requires { count ≤ length text.now }
+    ensures ok { OnOk result (Appends (W.contents out.old) (W.contents out.new) (take count text.now)) }
+    ensures err { IfErr result (λ failure. Unanswered failure (W.contents out.old) (W.contents out.new)) }
 {
     out.write_all(&text[..count]).map_err(Failure::Untaken)
 }
@@ -45,6 +48,8 @@ fn answer<R: Read, W: Write>(
     text: &mut [u8],
 ) -> Result<(), Failure>
     requires { (input_limit < length card.old) × (1024 ≤ length text.old) }
+    ensures ok { OnOk result (Answered (R.remaining reader.old) (W.contents out.old) (W.contents out.new)) }
+    ensures err { IfErr result (λ failure. Unanswered failure (W.contents out.old) (W.contents out.new)) }
 {
     match fill(reader, card) {
         Input::Ended(count) => {
