@@ -4,7 +4,6 @@ use Prim.Native.Nat.{◌*◌}
 use lib.Seq.{length-take-le}
 use Rattle.report.proofs.Examining.{examined_long, examined_refused, size_small, examined_good}
 use native.Mathlib.Omega.{arith}
-use borrow.Author.Rules.{rules}
 use Rattle.report.proofs.examined.Goals as goal
 
 pub returns-then-card-gt-INPUT_LIMIT : goal.returns-then-card-gt-INPUT_LIMIT
@@ -21,14 +20,14 @@ overflow_mul-size c =
 
 pub slice_bounds-table-end : goal.slice_bounds-table-end
 slice_bounds-table-end c =
-    omega (arith, size_small c.if-card-gt-INPUT_LIMIT.false c.read-reading.ensures c.if-reading-ne0.false, c.read-reading.auto.1.0)
+    omega (arith, size_small c.if-card-gt-INPUT_LIMIT.false c.read-reading.ensures c.if-reading-ne0.false, c.read-reading.auto.table)
 
 pub slice_bounds-analysed-end : goal.slice_bounds-analysed-end
 slice_bounds-analysed-end c =
-    sym (length-take-le (c.read-reading.result.equations * c.read-reading.result.unknowns) c.read-reading.new.1.0 (omega (
+    sym (length-take-le (c.read-reading.result.equations * c.read-reading.result.unknowns) c.read-reading.new.table (omega (
       arith,
       size_small c.if-card-gt-INPUT_LIMIT.false c.read-reading.ensures c.if-reading-ne0.false,
-      c.read-reading.auto.1.0,
+      c.read-reading.auto.table,
     )))
 
 pub returns : goal.returns

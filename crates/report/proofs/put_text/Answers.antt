@@ -1,6 +1,5 @@
 -- `report::put_text` meets its contract: the one of the three texts that the numbers ask for.
 use Rattle.report.proofs.Examining.{text_refused, text_solvable, text_singular}
-use borrow.Author.Rules.{rules}
 use Rattle.report.proofs.put_text.Goals as goal
 
 pub returns-then-found-ne0 : goal.returns-then-found-ne0

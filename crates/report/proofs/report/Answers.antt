@@ -1,7 +1,6 @@
 -- `report::report` meets its contract: the text is measured by laying it into nothing, and laid where there is room for all of it.
 use Rattle.report.proofs.Examining.{reported_none, reported_all}
 use Rattle.card.proofs.Theorems.{name_fits}
-use borrow.Author.Rules.{rules}
 use Rattle.report.proofs.report.Goals as goal
 
 pub put_text-length-requires : goal.put_text-length-requires

@@ -1,11 +1,10 @@
 -- `report::list::put_blocks` meets its contract: the first number, then number by number behind what splits its block from the one before.
 use mathlib.Core.Path.{◌∙◌}
 use native.Mathlib.Omega.{arith}
-use borrow.Author.Rules.{rules}
-use Prim.Native.Nat.{suc, ◌-◌}
-use lib.ListN.{length, get_or}
+use Prim.Native.Nat.{suc}
+use lib.ListN.{get_or}
 use Rattle.report.specs.Printed.{split_of}
-use Rattle.report.proofs.ListLaws.{Joining, joining_start, joining_step, joining_end, joined_none, split_here}
+use Rattle.report.proofs.ListLaws.{joining_start, joining_step, joining_end, joined_none, split_here}
 use Rattle.card.proofs.PutLaws.{laid_length}
 use Rattle.report.proofs.list.put_blocks.Goals as goal
 
@@ -17,7 +16,7 @@ returns-then-order-eq0 c =
 pub loop-i-init : goal.loop-i-init
 loop-i-init c =
     joining_start (λ k. split_of (get_or c.args.block.now k 0) (get_or c.args.block.now (suc k) 0)) c.args.order.now
-    c.put_number-next.new.0 c.wide.result c.if-order-eq0.false c.put_number-next.ensures
+    c.put_number-next.new.card c.wide.result c.if-order-eq0.false c.put_number-next.ensures
 
 pub loop-i-preserved : goal.loop-i-preserved
 loop-i-preserved c =

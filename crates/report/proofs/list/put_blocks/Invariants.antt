@@ -1,12 +1,8 @@
 -- `report::list::put_blocks` meets its contract: the first number, then number by number behind what splits its block from the one before.
-use mathlib.Core.Path.{◌∙◌}
-use native.Mathlib.Omega.{arith}
-use borrow.Author.Rules.{rules}
 use Prim.Native.Nat.{suc, ◌-◌}
 use lib.ListN.{length, get_or}
 use Rattle.report.specs.Printed.{split_of}
-use Rattle.report.proofs.ListLaws.{Joining, joining_start, joining_step, joining_end, joined_none, split_here}
-use Rattle.card.proofs.PutLaws.{laid_length}
+use Rattle.report.proofs.ListLaws.{Joining}
 use Rattle.report.proofs.list.put_blocks.Given as goal
 
 abbrev pub invariant-loop-i : goal.invariant-loop-i

@@ -1,12 +1,9 @@
 -- `report::list::put_commas` meets its contract: the first number, then number by number behind a comma.
 use mathlib.Core.Path.{◌∙◌}
 use native.Mathlib.Omega.{arith}
-use borrow.Author.Rules.{rules}
-use Prim.Native.Nat.{◌-◌}
 use mathlib.Core.Path.{refl}
-use lib.ListN.{length}
 use Rattle.card.specs.Text.{comma}
-use Rattle.report.proofs.ListLaws.{Joining, joining_start, joining_step, joining_end, joined_none}
+use Rattle.report.proofs.ListLaws.{joining_start, joining_step, joining_end, joined_none}
 use Rattle.card.proofs.PutLaws.{laid_length}
 use Rattle.report.proofs.list.put_commas.Goals as goal
 
@@ -16,7 +13,7 @@ returns-then-numbers-eq0 c =
 
 pub loop-i-init : goal.loop-i-init
 loop-i-init c =
-    joining_start (λ _. comma) c.args.numbers.now c.put_number-next.new.0 c.wide.result c.if-numbers-eq0.false
+    joining_start (λ _. comma) c.args.numbers.now c.put_number-next.new.card c.wide.result c.if-numbers-eq0.false
     c.put_number-next.ensures
 
 pub loop-i-preserved : goal.loop-i-preserved

@@ -1,13 +1,8 @@
 -- `report::list::put_commas` meets its contract: the first number, then number by number behind a comma.
-use mathlib.Core.Path.{◌∙◌}
-use native.Mathlib.Omega.{arith}
-use borrow.Author.Rules.{rules}
 use Prim.Native.Nat.{◌-◌}
-use mathlib.Core.Path.{refl}
 use lib.ListN.{length}
 use Rattle.card.specs.Text.{comma}
-use Rattle.report.proofs.ListLaws.{Joining, joining_start, joining_step, joining_end, joined_none}
-use Rattle.card.proofs.PutLaws.{laid_length}
+use Rattle.report.proofs.ListLaws.{Joining}
 use Rattle.report.proofs.list.put_commas.Given as goal
 
 abbrev pub invariant-loop-i : goal.invariant-loop-i

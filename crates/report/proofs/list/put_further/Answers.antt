@@ -1,6 +1,5 @@
 -- `report::list::put_further` meets its contract: the byte, and the number behind it.
 use Rattle.card.proofs.PutLaws.{laid_then}
-use borrow.Author.Rules.{rules}
 use Rattle.report.proofs.list.put_further.Goals as goal
 
 pub returns : goal.returns

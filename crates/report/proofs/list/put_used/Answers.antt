@@ -1,7 +1,6 @@
 -- `report::list::put_used` meets its contract: no used place is `none`, and any others are a list by commas.
 use native.Mathlib.Omega.{arith}
 use Rattle.report.proofs.ListLaws.{used_part, none_laid, some_laid}
-use borrow.Author.Rules.{rules}
 use Rattle.report.proofs.list.put_used.Goals as goal
 
 pub returns-then-count-eq0 : goal.returns-then-count-eq0

@@ -1,9 +1,7 @@
 -- `report::list::used` meets its contract: the places passed are used, and the first that is not ends them.
-use native.Mathlib.Omega.{arith}
-use borrow.Author.Rules.{rules}
 use Prim.Native.Nat.{◌-◌}
 use lib.ListN.{length}
-use Rattle.report.proofs.ListLaws.{Using, using_start, using_step, using_stop, using_end}
+use Rattle.report.proofs.ListLaws.{Using}
 use Rattle.report.proofs.list.used.Given as goal
 
 abbrev pub invariant-loop-i : goal.invariant-loop-i

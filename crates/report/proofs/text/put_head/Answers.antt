@@ -1,6 +1,5 @@
 -- `report::text::put_head` meets its contract: its parts, one behind another.
 use Rattle.card.proofs.PutLaws.{laid_then}
-use borrow.Author.Rules.{rules}
 use Rattle.report.proofs.text.put_head.Goals as goal
 
 pub returns : goal.returns

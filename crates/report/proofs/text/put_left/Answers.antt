@@ -5,7 +5,6 @@ use Rattle.table.specs.Model.{limit}
 use Rattle.card.proofs.PutLaws.{laid_then}
 use Rattle.report.proofs.TextLaws.{strip_short, used_short}
 use native.Mathlib.Omega.{arith}
-use borrow.Author.Rules.{rules}
 use Rattle.report.proofs.text.put_left.Goals as goal
 
 pub put_used-end-requires : goal.put_used-end-requires

@@ -5,7 +5,6 @@ use Rattle.card.specs.Text.{comma}
 use Rattle.card.proofs.PutLaws.{laid_then}
 use Rattle.report.proofs.TextLaws.{strip_short, joined_short}
 use native.Mathlib.Omega.{arith}
-use borrow.Author.Rules.{rules}
 use Rattle.report.proofs.text.put_list.Goals as goal
 
 pub put_commas-end-requires : goal.put_commas-end-requires

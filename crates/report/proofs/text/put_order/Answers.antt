@@ -6,7 +6,6 @@ use Rattle.card.proofs.PutLaws.{laid_then}
 use Rattle.report.specs.Printed.{split_of}
 use Rattle.report.proofs.TextLaws.{strip_length, joined_short}
 use native.Mathlib.Omega.{arith}
-use borrow.Author.Rules.{rules}
 use Rattle.report.proofs.text.put_order.Goals as goal
 
 pub put_blocks-end-requires : goal.put_blocks-end-requires

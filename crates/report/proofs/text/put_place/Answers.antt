@@ -1,6 +1,5 @@
 -- `report::text::put_place` meets its contract: up to four digits, or five.
 use Rattle.report.proofs.TextLaws.{place_four, place_five}
-use borrow.Author.Rules.{rules}
 use Rattle.report.proofs.text.put_place.Goals as goal
 
 pub returns-then-place-lt10000 : goal.returns-then-place-lt10000

@@ -2,7 +2,6 @@
 use Rattle.laws.specs.Text.{bytes}
 use Rattle.report.proofs.TextLaws.{figure_short, place_short, refused_laid}
 use native.Mathlib.Omega.{arith}
-use borrow.Author.Rules.{rules}
 use Rattle.report.proofs.text.put_refused.Goals as goal
 
 pub put_all-start-requires : goal.put_all-start-requires

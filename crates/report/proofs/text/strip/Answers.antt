@@ -1,6 +1,5 @@
 -- `report::text::strip` meets its contract: the part from the strip's start.
 use Rattle.report.proofs.TextLaws.{strip_part}
-use borrow.Author.Rules.{rules}
 use Rattle.report.proofs.text.strip.Goals as goal
 
 pub returns : goal.returns
