@@ -1,6 +1,5 @@
 -- `each` is safe and ends: each turn goes past a mark or to the end.
 use Prim.Native.Nat.{◌≤◌, ◌-◌}
-use borrow.Author.Rules.{rules}
 use lib.ListN.{length}
 use Rattle.card_run.proofs.each.Given as goal
 
