@@ -48,10 +48,8 @@ fn show<W: Write>(
 ) -> io::Result<()> {
     let mut answer = [7u8; ROOM];
     print(out, name)?;
-    print_reply(
-        out,
-        mudorder_analyse(equations, unknowns, table, &mut answer),
-    )?;
+    let number = mudorder_analyse(equations, unknowns, table, &mut answer);
+    print_reply(out, number)?;
     print_answer(out, answer)
 }
 
@@ -68,10 +66,8 @@ fn show_room<W: Write>(
 {
     let mut answer = [7u8; ROOM];
     print(out, name)?;
-    print_reply(
-        out,
-        mudorder_analyse(equations, unknowns, table, &mut answer[0..room]),
-    )?;
+    let number = mudorder_analyse(equations, unknowns, table, &mut answer[0..room]);
+    print_reply(out, number)?;
     print_answer(out, answer)
 }
 

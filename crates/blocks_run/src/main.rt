@@ -33,11 +33,10 @@ fn print_partners<W: Write>(out: &mut W, partners: [Unknown; LIMIT], n: usize) -
 // A semicolon where a block ends, a comma inside one.
 fn print_split<W: Write>(out: &mut W, before: u8, number: u8) -> io::Result<()> {
     if before == number {
-        print(out, b",")?;
+        print(out, b",")
     } else {
-        print(out, b";")?;
+        print(out, b";")
     }
-    Ok(())
 }
 
 fn print_blocks<W: Write>(out: &mut W, placing: Placing, n: usize) -> io::Result<()>
@@ -86,13 +85,15 @@ fn show<W: Write>(out: &mut W, name: &[u8], n: usize, bytes: &[u8]) -> io::Resul
     print(out, b"\n")
 }
 
-fn main(rt: HostRuntime) -> io::Result<()> {
-    let out = &mut rt.stdout();
+fn lettered<W: Write>(out: &mut W) -> io::Result<()> {
     show(out, b"A", 3, &[2, 0, 1, 0, 1, 1, 1, 0, 0])?;
     show(out, b"G", 2, &[1, 1, 1, 1])?;
     show(out, b"H", 2, &[1, 1, 1, 0])?;
     show(out, b"J", 2, &[1, 0, 4, 1])?;
-    show(out, b"K", 3, &[3, 0, 1, 0, 3, 1, 1, 1, 0])?;
+    show(out, b"K", 3, &[3, 0, 1, 0, 3, 1, 1, 1, 0])
+}
+
+fn examples<W: Write>(out: &mut W) -> io::Result<()> {
     show(
         out,
         b"002 6x6",
@@ -127,8 +128,18 @@ fn main(rt: HostRuntime) -> io::Result<()> {
           \x01\x00\x01\x00\x01\x00\x00\
           \x00\x01\x00\x00\x00\x01\x00\
           \x00\x00\x01\x00\x00\x00\x01",
-    )?;
+    )
+}
+
+fn full_size<W: Write>(out: &mut W) -> io::Result<()> {
     // each equation has its own unknown and the next one's; where the last has the first one's too, all are one block
     show(out, b"chain 32x32", LIMIT, &band(1, 0, 0, 1))?;
     show(out, b"ring 32x32", LIMIT, &band(1, 0, 1, 1))
+}
+
+fn main(rt: HostRuntime) -> io::Result<()> {
+    let out = &mut rt.stdout();
+    lettered(out)?;
+    examples(out)?;
+    full_size(out)
 }

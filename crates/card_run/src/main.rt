@@ -25,11 +25,10 @@ fn number<W: Write>(out: &mut W, n: usize) -> io::Result<()> {
 
 fn verdict<W: Write>(out: &mut W, same: bool) -> io::Result<()> {
     if same {
-        print(out, b"same ")?;
+        print(out, b"same ")
     } else {
-        print(out, b"differs ")?;
+        print(out, b"differs ")
     }
-    Ok(())
 }
 
 // The bytes of a table buffer, which are digits.
@@ -62,10 +61,8 @@ fn wrote<W: Write>(
 ) -> io::Result<()> {
     let mut card = [0u8; CARD_ROOM];
     if room <= CARD_ROOM {
-        write_says(
-            out,
-            card::write(name, equations, unknowns, table, &mut card[..room]),
-        )?;
+        let w = card::write(name, equations, unknowns, table, &mut card[..room]);
+        write_says(out, w)?;
     }
     Ok(())
 }
@@ -167,8 +164,7 @@ fn refusals<W: Write>(out: &mut W) -> io::Result<()> {
     wrote_line(out, b"a", 1, 2, b"\x05", 0)?;
     wrote_line(out, b"a", 1, 2, b"\x04\x05", 0)?;
     wrote_line(out, b"a", 1, 1, b"\x04", 47)?;
-    wrote_line(out, b"a", 1, 1, b"\x04", 48)?;
-    Ok(())
+    wrote_line(out, b"a", 1, 1, b"\x04", 48)
 }
 
 // Reads until the buffer is full or the input ends, and returns how many bytes it put there.

@@ -1,4 +1,4 @@
--- What reading into a buffer may come to. No contract can say which bytes stand in the input, so none says which of the three it is.
+-- What reading into a buffer may come to. No contract can say which bytes stand in standard input, so none says which of the three it is.
 use Rattle.std.specs.Prelude.{◌≡◌, ℕ, ◌<◌, List, take, ⊤, IfSome}
 use Rattle.std.specs.declared.option.Option.{Option}
 use Rattle.std.specs.Io.{StartsWith}

@@ -64,17 +64,19 @@ fn answer<R: Read, W: Write>(
     }
 }
 
+fn say_unread(rt: &impl Eprint, why: io::Error) -> io::Result<()> {
+    eprintln!(rt; "mudorder: no result, since standard input could not be read to its end: {why}")
+}
+
+fn say_untaken(rt: &impl Eprint, why: io::Error) -> io::Result<()> {
+    eprintln!(rt; "mudorder: standard output did not take the whole result: {why}")
+}
+
 // Where standard error does not take the words either, nobody is left to tell.
 fn say(rt: &impl Eprint, failure: Failure) {
     let _ = match failure {
-        Failure::Unread(why) => {
-            eprintln!(rt;
-                "mudorder: no result, since standard input could not be read to its end: {why}"
-            )
-        }
-        Failure::Untaken(why) => {
-            eprintln!(rt; "mudorder: standard output did not take the whole result: {why}")
-        }
+        Failure::Unread(why) => say_unread(rt, why),
+        Failure::Untaken(why) => say_untaken(rt, why),
     };
 }
 
