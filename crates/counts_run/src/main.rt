@@ -12,31 +12,36 @@ use counts::raise::least;
 use pairing::left::left_over;
 use shown::printing::{print, print_figure, print_line};
 use shown::sample::band;
+use std::io;
+use std::io::Write;
 use table::LIMIT;
 use table::judge::{first_above, well_sized};
 use table::rows::filled;
 
 // The first n of the numbers, on a line of their own.
-fn print_first(label: &[u8], n: usize, numbers: [u8; LIMIT])
+fn print_first<W: Write>(
+    out: &mut W,
+    label: &[u8],
+    n: usize,
+    numbers: [u8; LIMIT],
+) -> io::Result<()>
     requires { n ≤ limit }
 {
-    print_line(label, b",", &numbers[..n]);
+    print_line(out, label, b",", &numbers[..n])
 }
 
 // One row to a line.
-fn print_rows(n: usize, rows: &[[u8; LIMIT]; LIMIT])
+fn print_rows<W: Write>(out: &mut W, n: usize, rows: &[[u8; LIMIT]; LIMIT]) -> io::Result<()>
     requires { n ≤ limit }
 {
-    let mut e = 0;
-    while e < n {
-        let row = rows[e];
-        print_first(b"", n, row);
-        e += 1;
+    for e in 0..n {
+        print_first(out, b"", n, rows[e])?;
     }
+    Ok(())
 }
 
 // A solvable model.
-fn print_answer(n: usize, table: &[[u8; LIMIT]; LIMIT])
+fn print_answer<W: Write>(out: &mut W, n: usize, table: &[[u8; LIMIT]; LIMIT]) -> io::Result<()>
     requires { Pairable n table.now }
 {
     let choice = least(table, n);
@@ -45,41 +50,44 @@ fn print_answer(n: usize, table: &[[u8; LIMIT]; LIMIT])
     let leading = leading_rows(table, n, &counts, &tops);
     let free = freedom(n, &counts, &tops);
     let highest = index(n, &counts);
-    print_first(b"counts=", n, counts);
-    print_first(b"tops=", n, tops);
-    print_figure(b"index=", highest as u64);
-    print_figure(b"\nfreedom=", free as u64);
-    print(b"\n");
-    print_rows(n, &leading);
+    print_first(out, b"counts=", n, counts)?;
+    print_first(out, b"tops=", n, tops)?;
+    print_figure(out, b"index=", highest as u64)?;
+    print_figure(out, b"\nfreedom=", free as u64)?;
+    print(out, b"\n")?;
+    print_rows(out, n, &leading)
 }
 
 // A model of n equations and n unknowns, from its lent table.
-fn show(name: &[u8], n: usize, bytes: &[u8]) {
-    print(name);
-    print(b"\n");
+fn show<W: Write>(out: &mut W, name: &[u8], n: usize, bytes: &[u8]) -> io::Result<()> {
+    print(out, name)?;
+    print(out, b"\n")?;
     if well_sized(n, n, bytes) {
         if first_above(bytes) == bytes.len() {
             let table = filled(n, n, bytes);
             let left = left_over(&table, n, n);
             if left.rank as usize == n {
-                print_answer(n, &table);
+                print_answer(out, n, &table)?;
             } else {
-                print_figure(b"singular rank=", left.rank as u64);
-                print(b"\n");
+                print_figure(out, b"singular rank=", left.rank as u64)?;
+                print(out, b"\n")?;
             }
         }
     }
+    Ok(())
 }
 
-fn main() {
-    show(b"A", 3, &[2, 0, 1, 0, 1, 1, 1, 0, 0]);
-    show(b"C", 3, &[2, 0, 1, 1, 0, 0, 1, 0, 0]);
-    show(b"D", 1, &[4]);
-    show(b"G", 2, &[1, 1, 1, 1]);
-    show(b"H", 2, &[1, 1, 1, 0]);
-    show(b"J", 2, &[1, 0, 4, 1]);
-    show(b"K", 3, &[3, 0, 1, 0, 3, 1, 1, 1, 0]);
+fn main(rt: HostRuntime) -> io::Result<()> {
+    let out = &mut rt.stdout();
+    show(out, b"A", 3, &[2, 0, 1, 0, 1, 1, 1, 0, 0])?;
+    show(out, b"C", 3, &[2, 0, 1, 1, 0, 0, 1, 0, 0])?;
+    show(out, b"D", 1, &[4])?;
+    show(out, b"G", 2, &[1, 1, 1, 1])?;
+    show(out, b"H", 2, &[1, 1, 1, 0])?;
+    show(out, b"J", 2, &[1, 0, 4, 1])?;
+    show(out, b"K", 3, &[3, 0, 1, 0, 3, 1, 1, 1, 0])?;
     show(
+        out,
         b"pendulum",
         5,
         b"\x02\x00\x01\x00\x00\
@@ -87,7 +95,7 @@ fn main() {
           \x01\x00\x02\x00\x01\
           \x00\x01\x00\x02\x01\
           \x01\x01\x00\x00\x00",
-    );
+    )?;
     // each equation but the first has the unknown before its own at order 3
-    show(b"chain", LIMIT, &band(0, 4, 0, 1));
+    show(out, b"chain", LIMIT, &band(0, 4, 0, 1))
 }

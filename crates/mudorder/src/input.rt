@@ -1,6 +1,9 @@
 // Reading an input of unknown length into a buffer, so that an input that was not read whole is never taken for one that was.
 ghost use Rattle.std.specs.Prelude.{length};
-ghost use Rattle.mudorder.specs.Input.{Possible};
+ghost use Rattle.mudorder.specs.Input.{Possible, Given};
+
+use std::io;
+use std::io::Read;
 
 // What became of the input.
 #[derive(Clone, Copy)]
@@ -9,26 +12,23 @@ pub enum Input {
     Ended(usize),
     // It fills the buffer, and more may follow.
     Full,
-    // A read failed: what came before is not the input.
-    Failed,
+    // A read failed, for this reason: what came before is not the input.
+    Failed(io::Error),
 }
 
 // Reads until the buffer is full, the input ends or a read fails. On an input that does not wait, a read that has nothing to give yet has failed. One that
 // a signal interrupts would have failed too, but the program handles no signal, so the system takes such a read up again by itself.
-pub fn fill(descriptor: i32, buffer: &mut [u8]) -> Input
-    ensures { Possible (length buffer.old) result }
+pub fn fill<R: Read>(reader: &mut R, buffer: &mut [u8]) -> Input
+    ensures possible { Possible (length buffer.old) result }
+    ensures given { Given (R.remaining reader.old) buffer.new result }
 {
     let mut done = 0;
     while done < buffer.len() {
-        let got = libc::read(descriptor, &mut buffer[done..]);
-        if got < 0 {
-            return Input::Failed;
+        match reader.read(&mut buffer[done..]) {
+            Ok(0) => return Input::Ended(done),
+            Ok(count) => done += count,
+            Err(why) => return Input::Failed(why),
         }
-        let count = io::count(got, &buffer[done..]);
-        if count == 0 {
-            return Input::Ended(done);
-        }
-        done += count;
     }
     Input::Full
 }

@@ -1,17 +1,27 @@
 // Reads a card from standard input and writes its printed result to standard output; nothing else. Where standard input cannot be read to its end there
 // is no result: standard output stays empty, and standard error says why. Where standard output does not take the whole result, standard error says so.
-// A program of Rattle cannot choose its exit status: it is 0 in these cases too. A pipe that nobody reads any more ends the program by its signal.
+// The exit status is 1 in these two cases, and else 0.
 #![tactic(auto)]
 
 mod input;
 
-ghost use Rattle.std.specs.Prelude.{List, ◌++◌, ℕ, ◌≤◌, ◌<◌, length};
-ghost use Rattle.io.specs.Counts.{IsPrefixLen};
+ghost use Rattle.std.specs.Prelude.{List, ◌++◌, ℕ, ◌≤◌, ◌<◌, length, take, OnOk, IfErr};
+ghost use Rattle.std.specs.Io.KnownBytes.{Appends};
 ghost use Rattle.report.specs.Printed.{input_limit, Reported};
+ghost use Rattle.mudorder.specs.Answer.{Answered, Unanswered};
 
 use crate::input::{Input, fill};
-use libc::{STDIN_FILENO, STDOUT_FILENO};
 use report::{INPUT_LIMIT, TEXT_LIMIT, report};
+use std::io;
+use std::io::{Read, Write};
+use std::process::ExitCode;
+
+// Why there is no result, or not the whole of it.
+#[derive(Clone, Copy)]
+enum Failure {
+    Unread(io::Error),
+    Untaken(io::Error),
+}
 
 // The result of every input that begins so: above the limit it is refused, whatever follows.
 fn report_beginning(beginning: &[u8], text: &mut [u8]) -> usize
@@ -21,39 +31,61 @@ fn report_beginning(beginning: &[u8], text: &mut [u8]) -> usize
     report(beginning, text)
 }
 
-// Writes the first bytes of a text to standard output.
-fn print(text: &[u8], count: usize)
-    requires { IsPrefixLen count text.now }
+// Writes the first bytes of a text.
+fn print<W: Write>(out: &mut W, text: &[u8], count: usize) -> Result<(), Failure>
+    requires { count ≤ length text.now }
+    ensures ok { OnOk result (Appends (W.contents out.old) (W.contents out.new) (take count text.now)) }
+    ensures err { IfErr result (λ failure. Unanswered failure (W.contents out.old) (W.contents out.new)) }
 {
-    if !io::write_all(STDOUT_FILENO, &text[..count]) {
-        os::fail(b"mudorder: standard output did not take the whole result");
-    }
+    out.write_all(&text[..count]).map_err(Failure::Untaken)
 }
 
-fn say_unread() {
-    os::fail(b"mudorder: no result, since standard input could not be read to its end");
-}
-
-// Answers what stands in standard input, with a buffer for the card that is longer than the limit, and one for the text.
-fn answer(card: &mut [u8], text: &mut [u8])
+// Answers what a reader gives, with a buffer for the card that is longer than the limit, and one for the text.
+fn answer<R: Read, W: Write>(
+    reader: &mut R,
+    out: &mut W,
+    card: &mut [u8],
+    text: &mut [u8],
+) -> Result<(), Failure>
     requires { (input_limit < length card.old) × (1024 ≤ length text.old) }
+    ensures ok { OnOk result (Answered (R.remaining reader.old) (W.contents out.old) (W.contents out.new)) }
+    ensures err { IfErr result (λ failure. Unanswered failure (W.contents out.old) (W.contents out.new)) }
 {
-    let input = fill(STDIN_FILENO, card);
-    match input {
+    match fill(reader, card) {
         Input::Ended(count) => {
             let written = report(&card[..count], text);
-            print(text, written);
+            print(out, text, written)
         }
         Input::Full => {
             let written = report_beginning(card, text);
-            print(text, written);
+            print(out, text, written)
         }
-        Input::Failed => say_unread(),
+        Input::Failed(why) => Err(Failure::Unread(why)),
     }
 }
 
-fn main() {
+// Where standard error does not take the words either, nobody is left to tell.
+fn say(rt: &impl Eprint, failure: Failure) {
+    let _ = match failure {
+        Failure::Unread(why) => {
+            eprintln!(rt;
+                "mudorder: no result, since standard input could not be read to its end: {why}"
+            )
+        }
+        Failure::Untaken(why) => {
+            eprintln!(rt; "mudorder: standard output did not take the whole result: {why}")
+        }
+    };
+}
+
+fn main(rt: HostRuntime) -> ExitCode {
     let mut card = [0u8; INPUT_LIMIT + 1];
     let mut text = [0u8; TEXT_LIMIT];
-    answer(&mut card, &mut text);
+    match answer(&mut rt.stdin(), &mut rt.stdout(), &mut card, &mut text) {
+        Ok(()) => ExitCode::SUCCESS,
+        Err(failure) => {
+            say(&rt, failure);
+            ExitCode::FAILURE
+        }
+    }
 }

@@ -8,80 +8,101 @@ ghost use Rattle.table.specs.Model.{limit};
 use pairing::left::left_over;
 use shown::printing::{print, print_figure, print_next};
 use shown::sample::band;
+use std::io;
+use std::io::Write;
 use table::judge::well_sized;
 use table::rows::filled;
 use table::{CELLS, LIMIT};
 
 // The numbers of what is marked, by commas, or none.
-fn print_marked(label: &[u8], n: usize, marks: &[bool; LIMIT])
+fn print_marked<W: Write>(
+    out: &mut W,
+    label: &[u8],
+    n: usize,
+    marks: &[bool; LIMIT],
+) -> io::Result<()>
     requires { n ≤ limit }
 {
-    print(label);
+    print(out, label)?;
     let mut first = true;
-    let mut i = 0;
-    while i < n {
+    for i in 0..n {
         if marks[i] {
-            print_next(b",", first, (i + 1) as u8);
+            print_next(out, b",", first, (i + 1) as u8)?;
             first = false;
         }
-        i += 1;
     }
     if first {
-        print(b"none");
+        print(out, b"none")?;
     }
+    Ok(())
 }
 
-fn print_left(table: &[[u8; LIMIT]; LIMIT], equations: usize, unknowns: usize)
+fn print_left<W: Write>(
+    out: &mut W,
+    table: &[[u8; LIMIT]; LIMIT],
+    equations: usize,
+    unknowns: usize,
+) -> io::Result<()>
     requires { (equations ≤ limit) × (unknowns ≤ limit) }
 {
     let left = left_over(table, equations, unknowns);
     let surplus = left.surplus;
     let unfixed = left.unfixed;
-    print_figure(b" rank=", left.rank as u64);
-    print_marked(b" surplus=", equations, &surplus);
-    print_marked(b" unfixed=", unknowns, &unfixed);
+    print_figure(out, b" rank=", left.rank as u64)?;
+    print_marked(out, b" surplus=", equations, &surplus)?;
+    print_marked(out, b" unfixed=", unknowns, &unfixed)
 }
 
-fn show(name: &[u8], equations: usize, unknowns: usize, bytes: &[u8]) {
-    print(name);
+fn show<W: Write>(
+    out: &mut W,
+    name: &[u8],
+    equations: usize,
+    unknowns: usize,
+    bytes: &[u8],
+) -> io::Result<()> {
+    print(out, name)?;
     if well_sized(equations, unknowns, bytes) {
         let table = filled(equations, unknowns, bytes);
-        print_left(&table, equations, unknowns);
+        print_left(out, &table, equations, unknowns)?;
     } else {
-        print(b" size");
+        print(out, b" size")?;
     }
-    print(b"\n");
+    print(out, b"\n")
 }
 
-fn main() {
-    show(b"A", 3, 3, &[2, 0, 1, 0, 1, 1, 1, 0, 0]);
-    show(b"B", 2, 3, &[2, 0, 1, 0, 1, 1]);
-    show(b"C", 3, 3, &[2, 0, 1, 1, 0, 0, 1, 0, 0]);
-    show(b"F", 1, 1, &[0]);
-    show(b"zeros 3x3", 3, 3, &[0, 0, 0, 0, 0, 0, 0, 0, 0]);
-    show(b"more equations 4x2", 4, 2, &[1, 0, 1, 1, 0, 0, 0, 4]);
-    show(b"more unknowns 2x4", 2, 4, &[1, 1, 0, 0, 0, 1, 0, 4]);
+fn main(rt: HostRuntime) -> io::Result<()> {
+    let out = &mut rt.stdout();
+    show(out, b"A", 3, 3, &[2, 0, 1, 0, 1, 1, 1, 0, 0])?;
+    show(out, b"B", 2, 3, &[2, 0, 1, 0, 1, 1])?;
+    show(out, b"C", 3, 3, &[2, 0, 1, 1, 0, 0, 1, 0, 0])?;
+    show(out, b"F", 1, 1, &[0])?;
+    show(out, b"zeros 3x3", 3, 3, &[0, 0, 0, 0, 0, 0, 0, 0, 0])?;
+    show(out, b"more equations 4x2", 4, 2, &[1, 0, 1, 1, 0, 0, 0, 4])?;
+    show(out, b"more unknowns 2x4", 2, 4, &[1, 1, 0, 0, 0, 1, 0, 4])?;
     show(
+        out,
         b"two parts 4x4",
         4,
         4,
         &[1, 0, 0, 0, 1, 0, 0, 0, 0, 1, 1, 1, 0, 0, 1, 1],
-    );
+    )?;
     show(
+        out,
         b"long way 4x4",
         4,
         4,
         &[1, 1, 0, 0, 1, 0, 0, 0, 0, 1, 0, 0, 0, 0, 1, 1],
-    );
+    )?;
     // each equation has its own unknown and the next one: solvable, and singular without the last one's own
-    show(b"ladder 32x32", LIMIT, LIMIT, &band(2, 0, 0, 1));
+    show(out, b"ladder 32x32", LIMIT, LIMIT, &band(2, 0, 0, 1))?;
     show(
+        out,
         b"ladder without its end 32x32",
         LIMIT,
         LIMIT,
         &band(2, 0, 0, 0),
-    );
-    show(b"full 32x32", LIMIT, LIMIT, &[4; CELLS]);
-    show(b"short table", 2, 2, &[1, 1, 1]);
-    show(b"too many", LIMIT + 1, 1, &[1; LIMIT + 1]);
+    )?;
+    show(out, b"full 32x32", LIMIT, LIMIT, &[4; CELLS])?;
+    show(out, b"short table", 2, 2, &[1, 1, 1])?;
+    show(out, b"too many", LIMIT + 1, 1, &[1; LIMIT + 1])
 }

@@ -1,38 +1,49 @@
-// Printing on standard output. No contract can say what is written; each of these takes whatever it is handed, and returns.
-use libc::STDOUT_FILENO;
+// Printing on whatever takes bytes: the programs of the gate print on standard output. A failed write ends what was being printed; what of it was
+// taken by then no contract can say.
+ghost use Rattle.std.specs.Prelude.{OnOk};
+ghost use Rattle.std.specs.Io.KnownBytes.{Appends};
 
-pub fn print(text: &[u8]) {
-    io::write_all(STDOUT_FILENO, text);
+use std::io;
+use std::io::Write;
+
+pub fn print<W: Write>(out: &mut W, text: &[u8]) -> io::Result<()>
+    ensures { OnOk result (Appends (W.contents out.old) (W.contents out.new) text.now) }
+{
+    out.write_all(text)
 }
 
-pub fn print_number(number: u64) {
-    io::print_decimal(STDOUT_FILENO, number);
+pub fn print_number<W: Write>(out: &mut W, number: u64) -> io::Result<()> {
+    write!(out, "{number}")
 }
 
-pub fn print_figure(label: &[u8], figure: u64) {
-    print(label);
-    print_number(figure);
+pub fn print_figure<W: Write>(out: &mut W, label: &[u8], figure: u64) -> io::Result<()> {
+    print(out, label)?;
+    print_number(out, figure)
 }
 
 // One of a list of numbers, behind `split` unless it is the first.
-pub fn print_next(split: &[u8], first: bool, number: u8) {
+pub fn print_next<W: Write>(out: &mut W, split: &[u8], first: bool, number: u8) -> io::Result<()> {
     if !first {
-        print(split);
+        print(out, split)?;
     }
-    print_number(number as u64);
+    print_number(out, number as u64)
 }
 
-pub fn print_numbers(split: &[u8], numbers: &[u8]) {
-    let mut i = 0;
-    while i < numbers.len() {
-        print_next(split, i == 0, numbers[i]);
-        i += 1;
+pub fn print_numbers<W: Write>(out: &mut W, split: &[u8], numbers: &[u8]) -> io::Result<()> {
+    for i in 0..numbers.len() {
+        print_next(out, split, i == 0, numbers[i])?;
     }
+    Ok(())
 }
 
 // A list of numbers on a line of its own.
-pub fn print_line(label: &[u8], split: &[u8], numbers: &[u8]) {
-    print(label);
-    print_numbers(split, numbers);
-    print(b"\n");
+pub fn print_line<W: Write>(
+    out: &mut W,
+    label: &[u8],
+    split: &[u8],
+    numbers: &[u8],
+) -> io::Result<()> {
+    print(out, label)?;
+    print_numbers(out, split, numbers)?;
+    print(out, b"\n")
 }

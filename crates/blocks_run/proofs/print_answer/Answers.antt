@@ -5,13 +5,13 @@ use Rattle.blocks.proofs.FirstPartners.{first_partnered}
 use Rattle.blocks_run.proofs.print_answer.Goals as goal
 
 pub leading_rows-leading-requires : goal.leading_rows-leading-requires
-leading_rows-leading-requires c =
+leading_rows-leading-requires g c =
     let choice = c.least-choice in
     let r = choice.result in
     chosen_small c.args.n c.args.table.now c.requires r.counts r.tops r.holders choice.ensures
 
 pub first-partners-requires : goal.first-partners-requires
-first-partners-requires c =
+first-partners-requires g c =
     let choice = c.least-choice in
     let r = choice.result in (
       c.requires.bounded.equations,
@@ -19,4 +19,4 @@ first-partners-requires c =
     )
 
 pub solve_order-placing-requires : goal.solve_order-placing-requires
-solve_order-placing-requires c = first_partnered c.requires.bounded.equations c.first-partners.ensures
+solve_order-placing-requires g c = first_partnered c.requires.bounded.equations c.first-partners.ensures

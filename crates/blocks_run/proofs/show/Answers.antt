@@ -6,17 +6,17 @@ use Rattle.counts.proofs.Pairable.{pairable}
 use Rattle.blocks_run.proofs.show.Goals as goal
 
 pub filled-table-requires : goal.filled-table-requires
-filled-table-requires c = sym c.well_sized.ensures ∙ c.if-well_sized.true
+filled-table-requires g c = sym c.well_sized.ensures ∙ c.if-well_sized.true
 
 pub left_over-left-requires : goal.left_over-left-requires
-left_over-left-requires c =
+left_over-left-requires g c =
     let a = c.args in
-    let w = sized a.n a.n a.bytes.now (filled-table-requires c κs) in
+    let w = sized a.n a.n a.bytes.now (sym c.well_sized.ensures ∙ c.if-well_sized.true) in
     (w.equations.high, w.unknowns.high)
 
 pub print_answer-requires : goal.print_answer-requires
-print_answer-requires c =
+print_answer-requires g c =
     let a = c.args in
     let low = sym c.first_above.ensures ∙ c.if-first_above-bytes.true in
     let left = c.left_over-left in
-    rw c.filled-table.ensures (pairable a.n a.bytes.now left.result.rank (filled-table-requires c κs) low (rw c.filled-table.ensures at left.ensures.ranked) c.if-left-n.true)
+    rw c.filled-table.ensures (pairable a.n a.bytes.now left.result.rank (sym c.well_sized.ensures ∙ c.if-well_sized.true) low (rw c.filled-table.ensures at left.ensures.ranked) c.if-left-n.true)

@@ -1,23 +1,21 @@
--- `mudorder::answer` meets its contract: an input that ended left room in the buffer, and no text is longer than the buffer for it. That the buffer for
--- the card is longer than the limit is what `report_beginning` asks of a full one.
-use mathlib.Core.List.{[]}
-use native.Mathlib.Omega.{arith}
-use Rattle.io.proofs.Counting.{prefix_len_of_le, length-take_of_le}
+-- `mudorder::answer` meets its contract: what the reader gave is what is reported, and no text is longer than the buffer for it. That the buffer for the
+-- card is longer than the limit is what `report_beginning` asks of a full one.
+use Rattle.std.proofs.Common.{[], arith}
 use Rattle.report.proofs.Printing.{report_short}
-use borrow.Author.Rules.{rules}
+use Rattle.mudorder.proofs.Answering.{answered, beginning, ended}
 use Rattle.mudorder.proofs.answer.Goals as goal
 
-pub slice_bounds-report-end : goal.slice_bounds-report-end
-slice_bounds-report-end c =
-    omega (arith, rw c.input-1.given.1 at c.fill-input.ensures, c.fill-input.auto.1.0)
+pub print-requires-in-Full : goal.print-requires-in-Full
+print-requires-in-Full g c =
+    omega (arith, report_short (c.report_beginning-written.ensures []), c.report_beginning-written.auto, c.requires.1)
 
-pub slice_bounds-report-end-in-Ended : goal.slice_bounds-report-end-in-Ended
-slice_bounds-report-end-in-Ended c = length-take_of_le _ _ (slice_bounds-report-end c.before)
+pub returns-in-Full-clause-ok : goal.returns-in-Full-clause-ok
+returns-in-Full-clause-ok g c =
+    answered _ _ _ _ _ _ _ c.requires.1 (beginning _ _ _ _ _ (c.in-Full.ensures.given) c.report_beginning-written.ensures) c.print-in-Full.ensures.ok
 
 pub print-requires : goal.print-requires
-print-requires c =
-    prefix_len_of_le _ _ (omega (arith, report_short c.report-written.ensures, c.report-written.auto.1.0))
+print-requires g c = omega (arith, report_short c.report-written.ensures, c.report-written.auto, c.requires.1)
 
-pub print-requires-in-Full : goal.print-requires-in-Full
-print-requires-in-Full c =
-    prefix_len_of_le _ _ (omega (arith, report_short (c.report_beginning-written.ensures []), c.report_beginning-written.auto.1.0))
+pub returns-in-Ended-clause-ok : goal.returns-in-Ended-clause-ok
+returns-in-Ended-clause-ok g c =
+    answered _ _ _ _ _ _ _ c.requires.1 (ended _ _ _ _ _ c.in-Ended.ensures.given c.report-written.ensures) c.print.ensures.ok
