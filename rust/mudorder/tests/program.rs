@@ -2,7 +2,7 @@
 //! to standard output for each input, that it writes nothing else, and that it ends normally. And that it judges
 //! nothing that it could not read to its end, and says so, and that it says when its result was not taken.
 //!
-//! The program is `target/bin/mudorder` of the repository; where it is missing `rt check mudorder` makes it. The
+//! The program is `target/bin/mudorder` of the repository; where it is missing `.ci/make program` makes it. The
 //! environment variable `MUDORDER_PROGRAM` names another one.
 
 mod common;
@@ -37,9 +37,9 @@ static PROGRAM: LazyLock<PathBuf> = LazyLock::new(|| {
     let root = Path::new(env!("CARGO_MANIFEST_DIR")).ancestors().nth(2).expect("it stands in a repository");
     let program = root.join("target/bin/mudorder");
     if !program.is_file() {
-        let made = Command::new("rt").args(["check", "mudorder"]).current_dir(root).output();
-        let made = made.expect("`rt check mudorder` makes the program; it needs `rt` on the PATH");
-        assert!(made.status.success(), "`rt check mudorder`: {}", String::from_utf8_lossy(&made.stdout));
+        let made = Command::new(root.join(".ci/make")).arg("program").output();
+        let made = made.expect("`.ci/make program` makes the program; it needs `rt` on the PATH");
+        assert!(made.status.success(), "`.ci/make program`: {}", String::from_utf8_lossy(&made.stdout));
     }
     program
 });
