@@ -1,5 +1,4 @@
 -- `print_answer`: each part's function hands on what the next one asks for.
-use borrow.Author.Rules.{rules}
 use Rattle.counts.proofs.Chosen.{chosen_small, chosen_full}
 use Rattle.blocks.proofs.FirstPartners.{first_partnered}
 use Rattle.blocks_run.proofs.print_answer.Goals as goal

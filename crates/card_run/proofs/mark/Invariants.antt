@@ -1,6 +1,5 @@
 -- `mark` meets its contract: it only goes forward, and not past the end.
 use Prim.Native.Nat.{◌≤◌, ◌-◌}
-use borrow.Author.Rules.{rules}
 use lib.ListN.{length}
 use Rattle.card_run.proofs.mark.Given as goal
 

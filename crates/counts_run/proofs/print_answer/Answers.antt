@@ -1,6 +1,5 @@
 -- `print_answer`: the answer's numbers are small enough for what is asked of them.
 use Rattle.counts.proofs.Chosen.{chosen_small, freedom_asks}
-use borrow.Author.Rules.{rules}
 use Rattle.counts_run.proofs.print_answer.Goals as goal
 
 pub leading_rows-leading-requires : goal.leading_rows-leading-requires

@@ -1,6 +1,5 @@
 -- `show`: what was judged and has full rank is pairable.
 use mathlib.Core.Path.{sym, ◌∙◌}
-use borrow.Author.Rules.{rules}
 use Rattle.table.proofs.Model.{sized}
 use Rattle.counts.proofs.Pairable.{pairable}
 use Rattle.counts_run.proofs.show.Goals as goal

@@ -1,6 +1,5 @@
 -- `show` hands on what was judged: the bounds on the numbers of equations and unknowns come from the table's size.
 use mathlib.Core.Path.{sym, ◌∙◌}
-use borrow.Author.Rules.{rules}
 use Rattle.table.proofs.Model.{sized}
 use Rattle.pairing_run.proofs.show.Goals as goal
 

@@ -1,10 +1,7 @@
 -- `sample::band` fills one place after another, each with what the definition has there.
-use mathlib.Core.Path.{◌≡◌, ◌∙◌}
+use mathlib.Core.Path.{◌≡◌}
 use Prim.Native.Nat.{ℕ, ◌-◌, ◌*◌, ◌/◌, ◌%◌, ◌≤◌}
-use native.Mathlib.Omega.{arith}
-use borrow.Author.Rules.{rules}
 use Rattle.laws.specs.Tab.{tab, upto}
-use Rattle.laws.proofs.Tab.{fill_start, fill_step, fill_end, replicate_tab}
 use Rattle.table.specs.Model.{limit}
 use Rattle.shown.specs.Sample.{band_code}
 use Rattle.shown.proofs.sample.band.Given as goal
