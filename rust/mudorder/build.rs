@@ -1,7 +1,7 @@
 //! Finds or makes the static library that this crate links.
 //!
 //! The archive is `target/staticlib/libscreen.a` of the repository two levels up. Where it is missing, or older
-//! than the proved sources in `crates/`, `rt staticlib screen` makes it: that proves the library first. The
+//! than the proved sources in `crates/`, `.ci/make archive` makes it: that proves the library first. The
 //! environment variable `MUDORDER_ARCHIVE` names an archive to be taken as it is: the one that the gate has just made,
 //! or one made elsewhere, for a machine without `rt`.
 
@@ -77,19 +77,20 @@ fn date(archive: &Path, began: SystemTime) -> Result<(), String> {
     dated.map_err(|error| format!("cannot date {}: {error}", archive.display()))
 }
 
-/// Runs `rt staticlib screen` in the repository's root and hands back when it began.
+/// Runs `.ci/make archive` in the repository's root and hands back when it began.
 fn make(root: &Path) -> Result<SystemTime, String> {
     let began = SystemTime::now();
-    let output = Command::new("rt").args(["staticlib", "screen"]).current_dir(root).output();
-    match output {
-        Err(error) if error.kind() == io::ErrorKind::NotFound => Err(format!(
-            "{ARCHIVE} is missing or older than crates/, and `rt`, which makes it, is not on the PATH.\n\
-             Install the Rattle kit, or run `rt staticlib screen` in the repository's root on a machine that has it\n\
+    if let Err(error) = Command::new("rt").arg("version").output() {
+        return Err(format!(
+            "{ARCHIVE} is missing or older than crates/, and `rt`, which makes it, cannot be run ({error}).\n\
+             Install the Rattle kit, or run `.ci/make archive` in the repository's root on a machine that has it\n\
              and let MUDORDER_ARCHIVE name the archive."
-        )),
-        Err(error) => Err(format!("cannot run `rt staticlib screen`: {error}")),
+        ));
+    }
+    match Command::new(root.join(".ci/make")).arg("archive").output() {
+        Err(error) => Err(format!("cannot run `.ci/make archive`: {error}")),
         Ok(output) if !output.status.success() => Err(format!(
-            "`rt staticlib screen` failed in {} ({}):\n{}{}",
+            "`.ci/make archive` failed in {} ({}):\n{}{}",
             root.display(),
             output.status,
             String::from_utf8_lossy(&output.stdout),
@@ -115,13 +116,18 @@ fn repository_root() -> Result<PathBuf, String> {
     root.ok_or_else(|| format!("{} does not stand two levels below a repository", here.display()))
 }
 
-/// The latest time at which the file, or any file or folder below, was changed.
+/// The latest time at which the file, or any file or folder below, was changed. The folder `out` that `rt` makes in a
+/// crate is no source, and a folder that holds one changes when it is made.
 fn newest(path: &Path) -> io::Result<SystemTime> {
     let data = fs::metadata(path)?;
-    let mut time = data.modified()?;
-    if data.is_dir() {
-        for entry in fs::read_dir(path)? {
-            time = time.max(newest(&entry?.path())?);
+    if !data.is_dir() {
+        return data.modified();
+    }
+    let mut time = if path.join("out").is_dir() { SystemTime::UNIX_EPOCH } else { data.modified()? };
+    for entry in fs::read_dir(path)? {
+        let entry = entry?;
+        if entry.file_name() != "out" {
+            time = time.max(newest(&entry.path())?);
         }
     }
     Ok(time)

@@ -58,6 +58,7 @@ fn waits(reach: &[[u8; LIMIT]; LIMIT], equations: usize, number: &[u8; LIMIT], e
 }
 
 // The place of the lowest equation whose block is ready, or the number of equations where none is.
+#[tactic(auto, using(crate::proofs::Numbering::seek_found, crate::proofs::Numbering::seek_kept, crate::proofs::Numbering::seek_past, crate::proofs::Numbering::seek_start, crate::proofs::Numbering::seek_end))]
 fn lowest(reach: &[[u8; LIMIT]; LIMIT], equations: usize, number: &[u8; LIMIT]) -> usize
     requires { equations ≤ limit }
     ensures { Lowest equations (occurs_at reach.now) (number_at number.now) result }

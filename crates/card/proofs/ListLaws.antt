@@ -77,6 +77,9 @@ last_next q = let z : ◌≡◌ {A = ℕ} 0 1 = cc in absurd (omega arith)
 refused_last : {A : Type 0} {m n next : ℕ} → Refused m ≡ Last n next → A
 refused_last q = let z : ◌≡◌ {A = ℕ} 0 1 = cc in absurd (omega arith)
 
+refused_same : {m n : ℕ} → Refused m ≡ Refused n → m ≡ n
+refused_same q = cc
+
 abbrev pub pair_of : ℕ → ℕ → Pair
 pair_of e u = record { equation = record { 0 = e }; unknown = record { 0 = u } }
 
@@ -100,7 +103,7 @@ taking E U e' u' next (Occurs e u k) {p} {code} {n} q =
     let y : k + 1 ≡ code = cc in
     let x : next ≡ n = cc in
     (rw (← z) (record { k = k; ranged = ranged E U e u k t; code_is = sym y; after = b }), x)))
-    (λ t. let f : Refused 14 ≡ Next p code n = rw t at q in refused_next f)
+    (λ t. test (not_after e u e' u') (λ b. refused_next (simp (t, b) at q)) (λ b. refused_next (simp (t, b) at q)))
 
 last_said : (E U e' u' next : ℕ) (en : Entry) {m n : ℕ} → turn_said E U e' u' next en ≡ Last m n → (en ≡ End m) × (next ≡ n)
 last_said E U e' u' next Shape q = refused_last q
@@ -110,7 +113,7 @@ last_said E U e' u' next (Occurs e u k) {m} {n} q =
     (λ t. test (not_after e u e' u')
     (λ b. let f : Refused 15 ≡ Last m n = rw (t, b) at q in refused_last f)
     (λ b. let f : Next (pair_of e u) (k + 1) next ≡ Last m n = rw (t, b) at q in last_next (sym f)))
-    (λ t. let f : Refused 14 ≡ Last m n = rw t at q in refused_last f)
+    (λ t. test (not_after e u e' u') (λ b. refused_last (simp (t, b) at q)) (λ b. refused_last (simp (t, b) at q)))
 
 -- a refusal is 11, 14 or 15
 refused_said : (E U e' u' next : ℕ) (en : Entry) {m : ℕ} → turn_said E U e' u' next en ≡ Refused m → (11 ≤ m) × (m ≤ 15)
@@ -119,9 +122,11 @@ refused_said E U e' u' next (End n) q = refused_last (sym q)
 refused_said E U e' u' next (Occurs e u k) {m} q =
     test (in_range E U e u k)
     (λ t. test (not_after e u e' u')
-    (λ b. let f : Refused 15 ≡ Refused m = rw (t, b) at q in let z : 15 ≡ m = cc in omega arith)
+    (λ b. let z = refused_same (simp (t, b) at q) in omega arith)
     (λ b. let f : Next (pair_of e u) (k + 1) next ≡ Refused m = rw (t, b) at q in refused_next (sym f)))
-    (λ t. let f : Refused 14 ≡ Refused m = rw t at q in let z : 14 ≡ m = cc in omega arith)
+    (λ t. test (not_after e u e' u')
+    (λ b. let z = refused_same (simp (t, b) at q) in omega arith)
+    (λ b. let z = refused_same (simp (t, b) at q) in omega arith))
 
 pub turn_refused : (E U e' u' at : ℕ) (ls : Lines) {m : ℕ} → turn_of E U e' u' at ls ≡ Refused m → (11 ≤ m) × (m ≤ 15)
 turn_refused E U e' u' at none {m} q = let z : 11 ≡ m = cc in omega arith

@@ -121,7 +121,9 @@ module _ (size : ℕ) (name : List ℕ) (E U : ℕ) (a : E ≤ limit) (b : U ≤
           let f : collected name E U (n + 1) e u (set t (cell U e u) (x + 1)) next rest ≡ refused m q = rw (r, p) at w in
           ih (n + 1) e u next (cell U e u + 1) (set t (cell U e u) (x + 1)) m q (reached_some E U e u x ra)
           (record { cells = omega arith; near = omega arith; inside = omega arith }) f))
-          (λ r. here 14 k (omega arith) (omega arith) (rw r at w))
+          (λ r. test (not_after e u e' u')
+          (λ p. here _ k (omega arith) (omega arith) (simp (r, p) at w))
+          (λ p. here _ k (omega arith) (omega arith) (simp (r, p) at w)))
 
   lines_low : (ls : Lines) → Claim ls
   unfolding Claim

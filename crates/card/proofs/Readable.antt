@@ -199,7 +199,7 @@ module _ (name : List ℕ) (E U : ℕ) where
           occurs_rest p n c m j m' l rest name' E' U' T en ra a d
           (ih ((p ++ replicate j 0) ++ (k + 1) ∷ []) (n + 1) e u next (cell U e u + 1) m' name' E' U' T lp' (omega arith) (reached_some E U e u k ra)
           (ap (λ i. collected name E U (n + 1) e u i next rest) (sym s) ∙ f))))
-          (λ h. let f : refused 14 at ≡ good name' E' U' T = rw h at q in refused_good f)
+          (λ h. test (not_after e u e' u') (λ b. refused_good (simp (h, b) at q)) (λ b. refused_good (simp (h, b) at q)))
 
   collected_is : (ls : Lines) → Claim ls
   unfolding Claim

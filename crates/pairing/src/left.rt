@@ -48,6 +48,7 @@ fn largest(table: &[[u8; LIMIT]; LIMIT], equations: usize, unknowns: usize) -> P
 }
 
 // How many unknowns are held.
+#[tactic(auto, using(laws::proofs::Sum::count_yes, laws::proofs::Sum::count_no))]
 fn held_count(unknowns: usize, holders: [Equation; LIMIT]) -> u8
     requires { unknowns ≤ limit }
     ensures { result ≡ count unknowns (λ u. not (eqb (holder holders u) 0)) }

@@ -34,6 +34,7 @@ pub fn well_sized(equations: usize, unknowns: usize, table: &[u8]) -> bool
 }
 
 // The offset of the first code above 4, or the table's length where there is none.
+#[tactic(auto, using(crate::proofs::Model::above_here, crate::proofs::Model::above_next, crate::proofs::Model::above_none))]
 pub fn first_above(table: &[u8]) -> usize
     ensures { result ≡ first_above table.now }
 {

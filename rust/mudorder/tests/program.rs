@@ -2,7 +2,7 @@
 //! to standard output for each input, that it writes nothing else, and that it ends normally. And that it judges
 //! nothing that it could not read to its end, and says so, and that it says when its result was not taken.
 //!
-//! The program is `target/bin/mudorder` of the repository; where it is missing `rt check mudorder` makes it. The
+//! The program is `target/bin/mudorder` of the repository; where it is missing `.ci/make program` makes it. The
 //! environment variable `MUDORDER_PROGRAM` names another one.
 
 mod common;
@@ -18,7 +18,6 @@ use std::io::{ErrorKind, Write};
 use std::net::Shutdown;
 use std::os::fd::OwnedFd;
 use std::os::unix::net::UnixStream;
-use std::os::unix::process::ExitStatusExt;
 use std::path::{Path, PathBuf};
 use std::process::{Child, Command, Output, Stdio};
 use std::sync::LazyLock;
@@ -27,7 +26,8 @@ use std::time::Duration;
 
 const UNREAD: &str = "mudorder: no result, since standard input could not be read to its end";
 const UNTAKEN: &str = "mudorder: standard output did not take the whole result";
-const SIGPIPE: i32 = 13;
+/// The exit status where reading or writing failed.
+const FAILED: i32 = 1;
 
 /// The program to try, found or made once for all tests.
 static PROGRAM: LazyLock<PathBuf> = LazyLock::new(|| {
@@ -37,9 +37,9 @@ static PROGRAM: LazyLock<PathBuf> = LazyLock::new(|| {
     let root = Path::new(env!("CARGO_MANIFEST_DIR")).ancestors().nth(2).expect("it stands in a repository");
     let program = root.join("target/bin/mudorder");
     if !program.is_file() {
-        let made = Command::new("rt").args(["check", "mudorder"]).current_dir(root).output();
-        let made = made.expect("`rt check mudorder` makes the program; it needs `rt` on the PATH");
-        assert!(made.status.success(), "`rt check mudorder`: {}", String::from_utf8_lossy(&made.stdout));
+        let made = Command::new(root.join(".ci/make")).arg("program").output();
+        let made = made.expect("`.ci/make program` makes the program; it needs `rt` on the PATH");
+        assert!(made.status.success(), "`.ci/make program`: {}", String::from_utf8_lossy(&made.stdout));
     }
     program
 });
@@ -118,20 +118,32 @@ fn what_cannot_be_read_to_its_end_has_no_result() {
         let Output { status, stdout, stderr } = end(child);
         assert_eq!(String::from_utf8_lossy(&stdout), "", "standard output, {what}");
         assert_eq!(String::from_utf8_lossy(&stderr), format!("{UNREAD}: {why}\n"), "standard error, {what}");
-        assert!(status.success(), "{status}, {what}");
+        assert_eq!(status.code(), Some(FAILED), "{status}, {what}");
         tried += 1;
     };
 
     let folder = File::open("/").expect("the root can be opened");
-    check("a directory", "Is a directory", start(&mut Command::new(&*PROGRAM), folder, Stdio::piped()));
-    check("closed", "Bad file descriptor", start(&mut closed("<"), Stdio::null(), Stdio::piped()));
+    check(
+        "a directory",
+        "Is a directory (os error 21)",
+        start(&mut Command::new(&*PROGRAM), folder, Stdio::piped()),
+    );
+    check(
+        "closed",
+        "Bad file descriptor (os error 9)",
+        start(&mut closed("<"), Stdio::null(), Stdio::piped()),
+    );
     // An input that does not wait, and so much of it is there already. All of A's card is itself a good card.
     for length in [0, 1, CARD_A.len() / 2, CARD_A.len()] {
         let (mut far, near) = UnixStream::pair().expect("two ends");
         near.set_nonblocking(true).expect("it need not wait");
         far.write_all(&CARD_A.as_bytes()[..length]).expect("there is room for a card");
         let child = start(&mut Command::new(&*PROGRAM), OwnedFd::from(near), Stdio::piped());
-        check(&format!("{length} bytes and nothing more yet"), "Resource temporarily unavailable", child);
+        check(
+            &format!("{length} bytes and nothing more yet"),
+            "Resource temporarily unavailable (os error 11)",
+            child,
+        );
     }
     say(&format!("the program mudorder: {tried} inputs that cannot be read to their end, none judged"));
 }
@@ -144,18 +156,17 @@ fn a_result_that_is_not_taken_is_told() {
         OwnedFd::from(near)
     };
     let full = File::options().write(true).open("/dev/full").expect("a device that is always full");
+    let (far, unread) = UnixStream::pair().expect("two ends");
+    far.shutdown(Shutdown::Both).expect("nobody reads there");
     for (why, child) in [
-        ("No space left on device", start(&mut Command::new(&*PROGRAM), card(), full)),
-        ("Bad file descriptor", start(&mut closed(">"), card(), Stdio::piped())),
+        ("No space left on device (os error 28)", start(&mut Command::new(&*PROGRAM), card(), full)),
+        ("Bad file descriptor (os error 9)", start(&mut closed(">"), card(), Stdio::piped())),
+        ("Broken pipe (os error 32)", start(&mut Command::new(&*PROGRAM), card(), OwnedFd::from(unread))),
     ] {
         let Output { status, stderr, .. } = end(child);
         assert_eq!(String::from_utf8_lossy(&stderr), format!("{UNTAKEN}: {why}\n"));
-        assert!(status.success(), "{status}, {why}");
+        assert_eq!(status.code(), Some(FAILED), "{status}, {why}");
     }
-    let (far, near) = UnixStream::pair().expect("two ends");
-    far.shutdown(Shutdown::Both).expect("nobody reads there");
-    let ended = end(start(&mut Command::new(&*PROGRAM), card(), OwnedFd::from(near)));
-    assert_eq!(ended.status.signal(), Some(SIGPIPE), "a result that nobody reads");
 }
 
 #[test]

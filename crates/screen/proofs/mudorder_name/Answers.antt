@@ -2,7 +2,6 @@
 use Rattle.screen.proofs.Unpacked.{name_none, name_some}
 use Rattle.card.proofs.Theorems.{name_fits}
 use native.Mathlib.Omega.{arith}
-use borrow.Author.Rules.{rules}
 use Rattle.screen.proofs.mudorder_name.Goals as goal
 
 pub returns-then-part-eq0 : goal.returns-then-part-eq0

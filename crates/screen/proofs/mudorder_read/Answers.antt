@@ -2,7 +2,6 @@
 use Rattle.card.proofs.Theorems.{read_fits}
 use Rattle.screen.proofs.Unpacked.{read_packed}
 use native.Mathlib.Omega.{arith}
-use borrow.Author.Rules.{rules}
 use Rattle.screen.proofs.mudorder_read.Goals as goal
 
 pub pack-requires : goal.pack-requires

@@ -2,7 +2,6 @@
 use Rattle.card.proofs.Theorems.{write_fits}
 use Rattle.screen.proofs.Unpacked.{write_packed}
 use native.Mathlib.Omega.{arith}
-use borrow.Author.Rules.{rules}
 use Rattle.screen.proofs.mudorder_write.Goals as goal
 
 pub pack-requires : goal.pack-requires
