@@ -12,7 +12,7 @@ use borrow.Author.Tests.{eqb-true, eq-eqb, ltb-true, le-ltb}
 use Rattle.laws.specs.Tab.{tab, pick, number_at}
 use Rattle.laws.specs.Marks.{marked}
 use Rattle.laws.proofs.Tests.{test, tests, true≢false, not_true, and_left, and_right, and_both}
-use Rattle.laws.proofs.Tab.{get_or_tab, get_d_past}
+use Rattle.laws.proofs.Tab.{get_or_tab, get_or_past}
 use Rattle.table.specs.Model.{limit, in_limits, first_above, code_at, lent_code, rows_of}
 use Rattle.table.proofs.Model.{limits, square_at}
 use Rattle.pairing.specs.Pairing.{Rel, turn, Pairing, size}
@@ -180,9 +180,9 @@ codes_are E U t h k = fun_ext (λ e. fun_ext (λ u. here e u))
     here e u = test (ltb e limit)
         (λ a. test (ltb u limit)
         (λ b. square_at (lent_code E U t) e u (ltb-true e limit a) (ltb-true u limit b))
-        (λ b. rw (get_or_tab limit (λ x. tab limit (lent_code E U t x)) e [] (ltb-true e limit a)) (get_d_past limit (lent_code E U t e) u 0 (omega (arith, tests))
+        (λ b. rw (get_or_tab limit (λ x. tab limit (lent_code E U t x)) e [] (ltb-true e limit a)) (get_or_past limit (lent_code E U t e) u 0 (omega (arith, tests))
         ∙ sym (outside e u (not_true (λ w. let z = ltb-true u U (and_right (ltb e E) (ltb u U) w) in absurd (omega (arith, tests))))))))
-        (λ a. rw (get_d_past limit (λ x. tab limit (lent_code E U t x)) e [] (omega (arith, tests)))
+        (λ a. rw (get_or_past limit (λ x. tab limit (lent_code E U t x)) e [] (omega (arith, tests)))
         (sym (outside e u (not_true (λ w. let z = ltb-true e E (and_left (ltb e E) (ltb u U) w) in absurd (omega (arith, tests)))))))
 
 -- no refusal, where the answer buffer is long enough

@@ -1,6 +1,6 @@
 -- The first refusal that applies, by the tests in their order, and what is known where none does.
-use mathlib.Core.Path.{◌≡◌, refl, sym}
-use mathlib.Core.Bool.{true, false}
+use mathlib.Core.Path.{◌≡◌, refl, sym, ◌∙◌}
+use mathlib.Core.Bool.{Bool, true, false, not}
 use mathlib.Core.List.{List}
 use Prim.Native.Nat.{ℕ, ◌*◌, ◌^◌, ◌<◌, ◌≤◌}
 use native.Mathlib.Nat.{mul-le-mul}
@@ -8,10 +8,18 @@ use native.Mathlib.Omega.{arith}
 use lib.Dec.{eqb, ltb}
 use lib.ListN.{length}
 use borrow.Author.Tests.{eqb-true, eqb-false, ltb-true, ltb-false, eq-eqb, ne_eqb, lt-ltb, le-ltb}
-use Rattle.laws.proofs.Tests.{test, tests, and_both}
+use Rattle.laws.proofs.Tests.{test, tests, clash, and_both}
 use Rattle.table.specs.Model.{in_limits, well_sized, first_above, rows_of, Bounded}
 use Rattle.table.proofs.Model.{limits, above_most, rows_bounded}
+use Rattle.analysis.proofs.Finite.{is_not}
 use Rattle.analysis.specs.Outcome.{answer_bytes, refusal, refusal_place}
+
+-- what a test said that was turned round
+pub is_out : {r a : Bool} → r ≡ a → not r ≡ true → a ≡ false
+is_out {r} e n = sym e ∙ is_not r n
+
+pub is_in : {r a : Bool} → r ≡ a → not r ≡ false → a ≡ true
+is_in {r} e n = test r (λ t. sym e ∙ t) (λ f. clash (rw f refl) n)
 
 -- within the limits the product of E and U fits
 pub product_fits : (E U : ℕ) → in_limits E U ≡ true → E * U < 2 ^ 64

@@ -10,7 +10,7 @@ use borrow.Author.Tests.{ltb-true, ltb-false}
 use Rattle.laws.specs.Count.{bit}
 use Rattle.laws.specs.Tab.{tab}
 use Rattle.laws.proofs.Tests.{test, tests, and_left, and_right, same_test}
-use Rattle.laws.proofs.Tab.{get_or_tab, get_d_past, tab_ext}
+use Rattle.laws.proofs.Tab.{get_or_tab, get_or_past, tab_ext}
 use Rattle.table.specs.Model.{limit, code_at, occurs_at, square}
 use Rattle.table.proofs.Model.{square_at}
 use Rattle.pairing.specs.Pairing.{Rel}
@@ -25,9 +25,9 @@ use Rattle.blocks.proofs.Placed.{Alike}
 -- beyond its rows and columns a square has nothing
 square_past : (f : ℕ → ℕ → ℕ) (e g : ℕ) → (e < limit → g < limit → ⊥) → code_at (square f) e g ≡ 0
 square_past f e g out = test (ltb e limit)
-    (λ t. rw (get_or_tab limit (λ e. tab limit (f e)) e [] (ltb-true e limit t)) (get_d_past limit (f e) g 0
+    (λ t. rw (get_or_tab limit (λ e. tab limit (f e)) e [] (ltb-true e limit t)) (get_or_past limit (f e) g 0
     (test (ltb g limit) (λ u. absurd (out (ltb-true e limit t) (ltb-true g limit u))) (λ u. ltb-false g limit u))))
-    (λ t. rw (get_d_past limit (λ e. tab limit (f e)) e [] (ltb-false e limit t)))
+    (λ t. rw (get_or_past limit (λ e. tab limit (f e)) e [] (ltb-false e limit t)))
 
 module _ {m : ℕ} {T : Rel} (W : Within m T) (few : m ≤ limit) {t : List (List ℕ)} (is : t ≡ square (λ e g. bit (T e g))) where
   -- a table of a relation's bits holds that relation

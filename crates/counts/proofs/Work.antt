@@ -13,7 +13,7 @@ use Rattle.laws.specs.Marks.{marked}
 use Rattle.laws.specs.Tab.{tab, pick, number_at}
 use Rattle.laws.proofs.Tests.{test, either, given, clash, tests, not_true, and_left, and_right}
 use Rattle.laws.proofs.Sum.{bit_false}
-use Rattle.laws.proofs.Tab.{get_or_tab, get_d_past, copies_at}
+use Rattle.laws.proofs.Tab.{get_or_tab, get_or_past, copies_at}
 use Rattle.table.specs.Model.{limit, code_at, occurs_at, order_at, square}
 use Rattle.table.specs.declared.number.Equation.{Equation}
 use Rattle.table.proofs.Model.{square_at}
@@ -32,8 +32,8 @@ use Rattle.counts.proofs.Kept.{begin, count_few, raise, nearer, least, paired}
 square_in : (f : ℕ → ℕ → ℕ) (e u : ℕ) → occurs_at (square f) e u ≡ true → (e < limit) × (u < limit)
 square_in f e u t = test (ltb e limit)
     (λ h. test (ltb u limit) (λ k. (ltb-true e limit h, ltb-true u limit k))
-    (λ k. nothing (rw (get_or_tab limit (λ x. tab limit (f x)) e [] (ltb-true e limit h)) (get_d_past limit (f e) u 0 (omega (arith, tests))))))
-    (λ h. nothing (rw (get_d_past limit (λ x. tab limit (f x)) e [] (omega (arith, tests)))))
+    (λ k. nothing (rw (get_or_tab limit (λ x. tab limit (f x)) e [] (ltb-true e limit h)) (get_or_past limit (f e) u 0 (omega (arith, tests))))))
+    (λ h. nothing (rw (get_or_past limit (λ x. tab limit (f x)) e [] (omega (arith, tests)))))
   where
     nothing : {A : Type 0} → code_at (square f) e u ≡ 0 → A
     nothing z = clash t (rw z)
@@ -67,7 +67,7 @@ tops_at n t counts small u h = get_or_tab limit (λ u. pick (ltb u n) (high_at n
 pub tops_beyond_lem : (n : ℕ) (t : List (List ℕ)) (counts : List ℕ) (u : ℕ) → n ≤ u → number_at (tops_of n t counts) u ≡ 0
 tops_beyond_lem n t counts u h = test (ltb u limit)
     (λ k. get_or_tab limit (λ u. pick (ltb u n) (high_at n t counts u) 0) u 0 (ltb-true u limit k) ∙ rw (le-ltb u n h))
-    (λ k. get_d_past limit (λ u. pick (ltb u n) (high_at n t counts u) 0) u 0 (omega (arith, tests)))
+    (λ k. get_or_past limit (λ u. pick (ltb u n) (high_at n t counts u) 0) u 0 (omega (arith, tests)))
 
 -- the leading occurrences of the counts with their tops, in the table and by the definition
 abbrev rows_of : ℕ → List (List ℕ) → List ℕ → Rel
@@ -143,7 +143,7 @@ module _ (n : ℕ) (t : List (List ℕ)) (can : Pairable n t) where
             let o = bit_false out in
             let l = test (ltb e limit)
             (λ w. get_or_tab limit (λ e. pick (ltb e n) (number_at counts e + bit (marked asked e)) 0) e 0 (ltb-true e limit w) ∙ rw h)
-            (λ w. get_d_past limit (λ e. pick (ltb e n) (number_at counts e + bit (marked asked e)) 0) e 0 (ltb-false e limit w)) in
+            (λ w. get_or_past limit (λ e. pick (ltb e n) (number_at counts e + bit (marked asked e)) 0) e 0 (ltb-false e limit w)) in
             omega arith)
 
     pub raise_in : KeptIn n t f (raised_by n counts asked) holders

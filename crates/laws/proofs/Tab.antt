@@ -24,8 +24,8 @@ module _ {A : Type 0} where
   get_or_tab (suc n) f (suc i) d h = get_or_tab n (λ k. f (suc k)) i d (le_of_suc-le-suc h)
 
   -- past its end a list has nothing but the default
-  pub get_d_past : (n : ℕ) (f : ℕ → A) (i : ℕ) (d : A) → n ≤ i → get_or (tab n f) i d ≡ d
-  get_d_past n f i d h = get_or-eq_default (tab n f) d (rw (length_tab n f) h)
+  pub get_or_past : (n : ℕ) (f : ℕ → A) (i : ℕ) (d : A) → n ≤ i → get_or (tab n f) i d ≡ d
+  get_or_past n f i d h = get_or-eq_default (tab n f) d (rw (length_tab n f) h)
 
   -- a list is the tab of what stands at its places
   pub is_tab : (l : List A) (d : A) (n : ℕ) (f : ℕ → A) → length l ≡ n → ((i : ℕ) → i < n → get_or l i d ≡ f i) → l ≡ tab n f

@@ -13,7 +13,7 @@ use borrow.Author.Tests.{eqb-true, eqb-false, eq-eqb, lt-ltb, ltb-true, not-fals
 use Rattle.laws.specs.Marks.{marked}
 use Rattle.laws.specs.Tab.{tab, upto}
 use Rattle.laws.proofs.Tests.{test, tests, given, clash, true≢false, not_true}
-use Rattle.laws.proofs.Tab.{get_or_tab, get_d_past, tab_ext, replicate_tab, fill_start, fill_step}
+use Rattle.laws.proofs.Tab.{get_or_tab, get_or_past, tab_ext, replicate_tab, fill_start, fill_step}
 use Rattle.table.specs.Model.{limit}
 use Rattle.table.specs.declared.number.Equation.{Equation}
 use Rattle.pairing.specs.Pairing.{Rel, Full}
@@ -31,7 +31,7 @@ marks k = tab limit (λ i. ltb i k)
 pub marks_are : (k i : ℕ) → marked (marks k) i ≡ true → i < k
 marks_are k i t = test (ltb i limit)
     (λ b. ltb-true i k (sym (get_or_tab limit (λ x. ltb x k) i false (ltb-true i limit b)) ∙ t))
-    (λ b. clash t (get_d_past limit (λ x. ltb x k) i false (omega (arith, tests))))
+    (λ b. clash t (get_or_past limit (λ x. ltb x k) i false (omega (arith, tests))))
 
 pub are_marks : (k i : ℕ) → k ≤ limit → i < k → marked (marks k) i ≡ true
 are_marks k i l b = get_or_tab limit (λ x. ltb x k) i false (omega arith) ∙ lt-ltb i k b

@@ -39,7 +39,7 @@ static PROGRAM: LazyLock<PathBuf> = LazyLock::new(|| {
     if !program.is_file() {
         let made = Command::new(root.join(".ci/make")).arg("program").output();
         let made = made.expect("`.ci/make program` makes the program; it needs `rt` on the PATH");
-        assert!(made.status.success(), "`.ci/make program`: {}", String::from_utf8_lossy(&made.stdout));
+        assert!(made.status.success(), "`.ci/make program`: {}", String::from_utf8_lossy(&made.stderr));
     }
     program
 });

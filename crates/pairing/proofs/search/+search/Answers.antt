@@ -1,5 +1,5 @@
 -- `search::search`: the first pass finds a free unknown; the second asks the holders in turn. What falls is the number of those not asked.
--- The steps are the laws of proofs/Searching: takes, asks, moves, turn-start, turn-next, ends.
+-- The steps are the laws of proofs/Searching: takes, asks, moves, turn_start, turn_next, ends.
 use mathlib.Core.Path.{◌≡◌, refl, sym, ◌∙◌}
 use mathlib.Core.Bool.{true}
 use Prim.Native.Nat.{ℕ, ◌-◌, ◌<◌}
