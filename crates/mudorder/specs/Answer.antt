@@ -14,3 +14,8 @@ Answered left before after = IfSome left (λ input. (text : List ℕ) × Printed
 abbrev pub Unanswered : Failure → Option (List ℕ) → Option (List ℕ) → Type 0
 Unanswered (Unread why) before after = Keeps before after
 Unanswered (Untaken why) before after = ⊤
+
+-- it is the writer that failed
+abbrev pub IsUntaken : Failure → Type 0
+IsUntaken (Unread why) = ⊥
+IsUntaken (Untaken why) = ⊤

@@ -8,7 +8,7 @@ mod input;
 ghost use Rattle.std.specs.Prelude.{List, ◌++◌, ℕ, ◌≤◌, ◌<◌, length, take, OnOk, IfErr};
 ghost use Rattle.std.specs.Io.KnownBytes.{Appends};
 ghost use Rattle.report.specs.Printed.{input_limit, Reported};
-ghost use Rattle.mudorder.specs.Answer.{Answered, Unanswered};
+ghost use Rattle.mudorder.specs.Answer.{Answered, Unanswered, IsUntaken};
 
 use crate::input::{Input, fill};
 use report::{INPUT_LIMIT, TEXT_LIMIT, report};
@@ -35,7 +35,7 @@ fn report_beginning(beginning: &[u8], text: &mut [u8]) -> usize
 fn print<W: Write>(out: &mut W, text: &[u8], count: usize) -> Result<(), Failure>
     requires { count ≤ length text.now }
     ensures ok { OnOk result (Appends (W.contents out.old) (W.contents out.new) (take count text.now)) }
-    ensures err { IfErr result (λ failure. Unanswered failure (W.contents out.old) (W.contents out.new)) }
+    ensures err { IfErr result IsUntaken }
 {
     out.write_all(&text[..count]).map_err(Failure::Untaken)
 }
