@@ -79,6 +79,8 @@ fn date(archive: &Path, began: SystemTime) -> Result<(), String> {
 
 /// Runs `.ci/make archive` in the repository's root and hands back when it began.
 fn make(root: &Path) -> Result<SystemTime, String> {
+    make_out_folders(&root.join("crates"))
+        .map_err(|error| format!("cannot make the crates' folders out: {error}"))?;
     let began = SystemTime::now();
     if let Err(error) = Command::new("rt").arg("version").output() {
         return Err(format!(
@@ -116,18 +118,27 @@ fn repository_root() -> Result<PathBuf, String> {
     root.ok_or_else(|| format!("{} does not stand two levels below a repository", here.display()))
 }
 
-/// The latest time at which the file, or any file or folder below, was changed. The folder `out` that `rt` makes in a
-/// crate is no source, and a folder that holds one changes when it is made.
+/// Makes the folder `out` in each crate before `rt` does: making it changes the crate's own folder.
+fn make_out_folders(crates: &Path) -> io::Result<()> {
+    for entry in fs::read_dir(crates)? {
+        let folder = entry?.path();
+        if folder.is_dir() {
+            fs::create_dir_all(folder.join("out"))?;
+        }
+    }
+    Ok(())
+}
+
+/// The latest time at which the file, or any file or folder below, was changed. What `rt` keeps in `out` is no source.
 fn newest(path: &Path) -> io::Result<SystemTime> {
     let data = fs::metadata(path)?;
-    if !data.is_dir() {
-        return data.modified();
-    }
-    let mut time = if path.join("out").is_dir() { SystemTime::UNIX_EPOCH } else { data.modified()? };
-    for entry in fs::read_dir(path)? {
-        let entry = entry?;
-        if entry.file_name() != "out" {
-            time = time.max(newest(&entry.path())?);
+    let mut time = data.modified()?;
+    if data.is_dir() {
+        for entry in fs::read_dir(path)? {
+            let entry = entry?;
+            if entry.file_name() != "out" {
+                time = time.max(newest(&entry.path())?);
+            }
         }
     }
     Ok(time)
