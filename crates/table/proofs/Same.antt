@@ -1,0 +1,36 @@
+-- A number tells which equation or which unknown it is.
+use mathlib.Core.Path.{◌≡◌, refl, ap, subst}
+use Prim.Native.Nat.{ℕ, ◌<◌}
+use Prim.{hlevel}
+use native.Mathlib.Omega.{arith}
+use Rattle.std.proofs.Props.{props}
+use Rattle.std.specs.declared.num.NonZeroU8.{NonZeroU8}
+use Rattle.std.specs.declared.option.Option.{Option}
+use Rattle.std.specs.declared.option.Option.TheVariants.{None, Some}
+use Rattle.table.specs.Number.{equation_number, unknown_number, or_zero}
+use Rattle.table.specs.declared.number.Equation.{Equation}
+use Rattle.table.specs.declared.number.Unknown.{Unknown}
+
+abbrev made : (n : ℕ) → 0 < n → NonZeroU8
+made n p = record { value = n; ok = p }
+
+-- that a number is not 0 has one proof
+same_made : (m n : ℕ) (p : 0 < m) (q : 0 < n) → m ≡ n → made m p ≡ made n q
+same_made m n p q e =
+    let one : (n : ℕ) → IsProp (0 < n) = λ n. hlevel props in
+    subst (λ n. (q : 0 < n) → made m p ≡ made n q) e (λ q. ap (made m) (one m p q)) q
+
+same_value : (x y : NonZeroU8) → x.value ≡ y.value → x ≡ y
+same_value x y e = same_made x.value y.value x.ok y.ok e
+
+pub one_equation : (x y : Option Equation) → or_zero equation_number x ≡ or_zero equation_number y → x ≡ y
+one_equation None None e = refl
+one_equation None (Some y) e = let p = y.0.ok in absurd (omega arith)
+one_equation (Some x) None e = let p = x.0.ok in absurd (omega arith)
+one_equation (Some x) (Some y) e = ap {B = Option Equation} (λ v. Some (record { 0 = v })) (same_value x.0 y.0 e)
+
+pub one_unknown : (x y : Option Unknown) → or_zero unknown_number x ≡ or_zero unknown_number y → x ≡ y
+one_unknown None None e = refl
+one_unknown None (Some y) e = let p = y.0.ok in absurd (omega arith)
+one_unknown (Some x) None e = let p = x.0.ok in absurd (omega arith)
+one_unknown (Some x) (Some y) e = ap {B = Option Unknown} (λ v. Some (record { 0 = v })) (same_value x.0 y.0 e)
