@@ -1,13 +1,13 @@
 -- The first full pairing is one: two of them agree at each equation once they agree before it, each being the lower there.
 -- And a full pairing as a relation and as a function are the same thing.
-use mathlib.Core.Path.{◌≡◌, refl, sym, ap, ◌∙◌}
+use mathlib.Core.Path.{◌≡◌, refl, sym, ◌∙◌}
 use mathlib.Core.Bool.{Bool, true, ◌&&◌}
 use mathlib.Core.List.{List}
 use Prim.Native.Nat.{ℕ, zero, suc, ◌<◌}
 use native.Mathlib.Omega.{arith}
 use native.Mathlib.Nat.{le_antisymm}
 use lib.Dec.{eqb, ltb}
-use lib.ListN.{length}
+use lib.ListN.{get_or, length}
 use lib.Seq.{ext_get_or}
 use borrow.Author.Tests.{ltb-true, ltb-false, lt-ltb, eqb-true, eq-eqb}
 use Rattle.laws.specs.Count.{any}
@@ -16,6 +16,7 @@ use Rattle.laws.proofs.Tests.{test, either, given, clash, true≢false, and_left
 use Rattle.std.specs.declared.option.Option.{Option}
 use Rattle.std.specs.declared.option.Option.TheVariants.{None}
 use Rattle.table.specs.declared.number.Unknown.{Unknown}
+use Rattle.table.proofs.Same.{one_unknown}
 use Rattle.pairing.specs.Pairing.{Rel, Pairing, Full}
 use Rattle.pairing.specs.First.{Partners, First}
 use Rattle.pairing.specs.Handed.{partner_of, FirstIs}

@@ -15,6 +15,8 @@ use Rattle.laws.specs.Tab.{tab, upto}
 use Rattle.laws.proofs.Tests.{test, tests, given, clash, true≢false, not_true}
 use Rattle.laws.proofs.Tab.{get_or_tab, get_or_past, tab_ext, replicate_tab, fill_start, fill_step}
 use Rattle.table.specs.Model.{limit}
+use Rattle.std.specs.Option.{MatchOption}
+use Rattle.std.specs.Bool.{then_some}
 use Rattle.std.specs.declared.option.Option.{Option}
 use Rattle.std.specs.declared.option.Option.TheVariants.{None}
 use Rattle.table.specs.Number.{or_zero, equation_number}
@@ -206,3 +208,9 @@ tried_held {n} {edge} {e} {u} {h} {x} full l b number le = rw number (record {
   where
     earlier : (i : ℕ) → holder h u ≡ suc i → (holder h u ≡ suc e → ⊥) → i < e
     earlier i y ne = omega arith
+
+-- what was tried, as it is handed out: the pairing where e can have u, and none where it cannot
+pub tried_is : {n : ℕ} {edge : Rel} {e u : ℕ} {h k : List (Option Equation)} (done : Bool) → Tried n edge e u h done k
+    → MatchOption (then_some done k) (Tried n edge e u h false h) (λ after. Tried n edge e u h true after)
+tried_is true t = t
+tried_is false t = record { yes = λ z. absurd (true≢false (sym z)); no = t.no }
