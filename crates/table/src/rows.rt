@@ -8,6 +8,14 @@ use crate::number::{Counted, Equation, Unknown};
 use crate::{LIMIT, Row, Rows};
 use laws::array::tabulated;
 
+// E equations and U unknowns, and what occurs where: codes, and 0 beyond the last equation and unknown.
+pub struct Table {
+    pub equations: usize,
+    pub unknowns: usize,
+    pub rows: Rows,
+    pub ghost few: { (equations ≤ limit) × (unknowns ≤ limit) },
+}
+
 // One row: byte e × U + u of the lent table at place u, and 0 beyond the last unknown.
 fn lent_row(unknowns: usize, table: &[u8], at: usize) -> Row
     requires { (unknowns ≤ limit) × (at + unknowns ≤ length table.now) }
@@ -16,64 +24,76 @@ fn lent_row(unknowns: usize, table: &[u8], at: usize) -> Row
     tabulated(unknowns, 0, |u| table[at + u])
 }
 
-// The table as rows of codes, from bytes that were judged well sized.
-pub fn filled(equations: usize, unknowns: usize, table: &[u8]) -> Rows
-    requires { well_sized equations unknowns table.now ≡ true }
-    ensures { result ≡ rows_of equations unknowns table.now }
-{
-    tabulated(
-        equations,
-        [0; LIMIT],
-        |e|
-            requires { (unknowns ≤ limit) × (e * unknowns + unknowns ≤ length table.now) }
-            ensures { result ≡ tab limit (λ u. pick (ltb u unknowns) (get_or table.entry.now (e * unknowns + u) 0) 0) }
-        { lent_row(unknowns, table, e * unknowns) },
-    )
-}
+impl Table {
+    // The table as rows of codes, from bytes that were judged well sized.
+    pub fn filled(equations: usize, unknowns: usize, table: &[u8]) -> Table
+        requires { well_sized equations unknowns table.now ≡ true }
+        ensures { (result.equations ≡ equations) × (result.unknowns ≡ unknowns) × (result.rows ≡ rows_of equations unknowns table.now) }
+    {
+        let rows = tabulated(
+            equations,
+            [0; LIMIT],
+            |e|
+                requires { (unknowns ≤ limit) × (e * unknowns + unknowns ≤ length table.now) }
+                ensures { result ≡ tab limit (λ u. pick (ltb u unknowns) (get_or table.entry.now (e * unknowns + u) 0) 0) }
+            { lent_row(unknowns, table, e * unknowns) },
+        );
+        Table {
+            equations,
+            unknowns,
+            rows,
+        }
+    }
 
-// The code of unknown u in equation e.
-pub fn code(table: &Rows, e: Equation, u: Unknown) -> u8
-    requires { (equation_number e ≤ limit) × (unknown_number u ≤ limit) }
-    ensures { result ≡ code_at table.now (equation_number e - 1) (unknown_number u - 1) }
-{
-    table[e.place()][u.place()]
-}
+    // The code of unknown u in equation e.
+    pub fn code(&self, e: Equation, u: Unknown) -> u8
+        requires { (equation_number e ≤ limit) × (unknown_number u ≤ limit) }
+        ensures { result ≡ code_at self.now.rows (equation_number e - 1) (unknown_number u - 1) }
+    {
+        self.rows[e.place()][u.place()]
+    }
 
-// Unknown u occurs in equation e. Code 0 is no order at all: it does not occur.
-pub fn occurs(table: &Rows, e: Equation, u: Unknown) -> bool
-    requires { (equation_number e ≤ limit) × (unknown_number u ≤ limit) }
-    ensures { result ≡ occurs_at table.now (equation_number e - 1) (unknown_number u - 1) }
-{
-    code(table, e, u) != 0
-}
+    // Unknown u occurs in equation e. Code 0 is no order at all: it does not occur.
+    pub fn occurs(&self, e: Equation, u: Unknown) -> bool
+        requires { (equation_number e ≤ limit) × (unknown_number u ≤ limit) }
+        ensures { result ≡ occurs_at self.now.rows (equation_number e - 1) (unknown_number u - 1) }
+    {
+        self.code(e, u) != 0
+    }
 
-// The row of an equation.
-pub fn row(table: &Rows, e: Equation) -> Row
-    requires { equation_number e ≤ limit }
-    ensures { result ≡ get_or table.now (equation_number e - 1) [] }
-{
-    table[e.place()]
-}
+    // The row of an equation.
+    pub fn row(&self, e: Equation) -> Row
+        requires { equation_number e ≤ limit }
+        ensures { result ≡ get_or self.now.rows (equation_number e - 1) [] }
+    {
+        self.rows[e.place()]
+    }
 
-// The column of an unknown, as a row.
-pub fn column(table: &Rows, u: Unknown) -> Row
-    requires { unknown_number u ≤ limit }
-    ensures { result ≡ tab limit (λ e. code_at table.now e (unknown_number u - 1)) }
-{
-    let at = u.place();
-    tabulated(LIMIT, 0, |e| table[e][at])
-}
+    // The column of an unknown, as a row.
+    pub fn column(&self, u: Unknown) -> Row
+        requires { unknown_number u ≤ limit }
+        ensures { result ≡ tab limit (λ e. code_at self.now.rows e (unknown_number u - 1)) }
+    {
+        let at = u.place();
+        tabulated(LIMIT, 0, |e| self.rows[e][at])
+    }
 
-// The table with equations and unknowns exchanged.
-pub fn transposed(table: &Rows) -> Rows
-    ensures { result ≡ turned table.now }
-{
-    tabulated(
-        LIMIT,
-        [0; LIMIT],
-        |u|
-            requires { u < limit }
-            ensures { result ≡ tab limit (λ e. code_at table.entry.now e u) }
-        { column(table, Unknown::at(u)) },
-    )
+    // The table with equations and unknowns exchanged.
+    pub fn transposed(&self) -> Table
+        ensures { (result.equations ≡ self.now.unknowns) × (result.unknowns ≡ self.now.equations) × (result.rows ≡ turned self.now.rows) }
+    {
+        let rows = tabulated(
+            LIMIT,
+            [0; LIMIT],
+            |u|
+                requires { u < limit }
+                ensures { result ≡ tab limit (λ e. code_at self.entry.now.rows e u) }
+            { self.column(Unknown::at(u)) },
+        );
+        Table {
+            equations: self.unknowns,
+            unknowns: self.equations,
+            rows,
+        }
+    }
 }
