@@ -12,9 +12,9 @@ ghost use Rattle.pairing.specs.Choosing.{HeldBy, Tried, Settled};
 use crate::search::search;
 use crate::{Holders, Marks};
 use laws::array::tabulated;
+use table::LIMIT;
 use table::number::{Counted, Equation, Unknown};
-use table::rows::occurs;
-use table::{LIMIT, Rows};
+use table::rows::Table;
 
 // The lowest unknown that the equation holds.
 fn held_by(unknowns: usize, e: Equation, holders: &Holders) -> Option<Unknown>
@@ -38,12 +38,13 @@ fn up_to(e: Equation) -> Marks
 }
 
 // The pairing in which the equation has the unknown while those before it keep theirs, where all the others can still be paired.
-fn trial(table: &Rows, n: usize, e: Equation, u: Unknown, holders: &Holders) -> Option<Holders>
-    requires { (equation_number e ≤ n) × (unknown_number u ≤ n) × (n ≤ limit) × Full n n (occurs_at table.now) (held holders.now) }
-    ensures { MatchOption result (Tried n (occurs_at table.now) (equation_number e - 1) (unknown_number u - 1) holders.now false holders.now)
-        (λ h. Tried n (occurs_at table.now) (equation_number e - 1) (unknown_number u - 1) holders.now true h) }
+fn trial(table: &Table, e: Equation, u: Unknown, holders: &Holders) -> Option<Holders>
+    requires { (equation_number e ≤ table.now.equations) × (unknown_number u ≤ table.now.equations) × (table.now.equations ≡ table.now.unknowns)
+        × Full table.now.equations table.now.equations (occurs_at table.now.rows) (held holders.now) }
+    ensures { MatchOption result (Tried table.now.equations (occurs_at table.now.rows) (equation_number e - 1) (unknown_number u - 1) holders.now false holders.now)
+        (λ h. Tried table.now.equations (occurs_at table.now.rows) (equation_number e - 1) (unknown_number u - 1) holders.now true h) }
 {
-    if !occurs(table, e, u) {
+    if !table.occurs(e, u) {
         return None;
     }
     let holder = holders[u.place()].unwrap();
@@ -51,22 +52,23 @@ fn trial(table: &Rows, n: usize, e: Equation, u: Unknown, holders: &Holders) -> 
         // Its own already, or one that stands before it has it.
         return (holder == e).then_some(*holders);
     }
-    let own = held_by(n, e, holders).unwrap();
+    let own = held_by(table.equations, e, holders).unwrap();
     let mut given = *holders;
     given[own.place()] = None;
     given[u.place()] = Some(e);
-    let answer = search(table, n, holder, given, up_to(e));
+    let answer = search(table, holder, given, up_to(e));
     let moved = answer.holders;
     answer.got.is_some().then_some(moved)
 }
 
 // The pairing in which the equation has the first unknown that it can have.
-fn settled(table: &Rows, n: usize, e: Equation, holders: &Holders) -> Holders
-    requires { (equation_number e ≤ n) × (n ≤ limit) × Settled n (occurs_at table.now) holders.now (equation_number e - 1) }
-    ensures { Settled n (occurs_at table.now) result (equation_number e) }
+fn settled(table: &Table, e: Equation, holders: &Holders) -> Holders
+    requires { (equation_number e ≤ table.now.equations) × (table.now.equations ≡ table.now.unknowns)
+        × Settled table.now.equations (occurs_at table.now.rows) holders.now (equation_number e - 1) }
+    ensures { Settled table.now.equations (occurs_at table.now.rows) result (equation_number e) }
 {
-    for u in 0..n {
-        if let Some(tried) = trial(table, n, e, Unknown::at(u), holders) {
+    for u in 0..table.equations {
+        if let Some(tried) = trial(table, e, Unknown::at(u), holders) {
             return tried;
         }
     }
@@ -74,26 +76,26 @@ fn settled(table: &Rows, n: usize, e: Equation, holders: &Holders) -> Holders
 }
 
 // The pairing in which every equation in turn has the first unknown that it can have.
-fn all_settled(table: &Rows, n: usize, holders: Holders) -> Holders
-    requires { (n ≤ limit) × Full n n (occurs_at table.now) (held holders) }
-    ensures { Settled n (occurs_at table.now) result n }
+fn all_settled(table: &Table, holders: Holders) -> Holders
+    requires { (table.now.equations ≡ table.now.unknowns) × Full table.now.equations table.now.equations (occurs_at table.now.rows) (held holders) }
+    ensures { Settled table.now.equations (occurs_at table.now.rows) result table.now.equations }
 {
     let mut holders = holders;
-    for e in 0..n {
-        holders = settled(table, n, Equation::at(e), &holders);
+    for e in 0..table.equations {
+        holders = settled(table, Equation::at(e), &holders);
     }
     holders
 }
 
 // The partners: the unknown of each equation in the first full pairing, from any full pairing; none beyond the last equation.
-pub fn first(table: &Rows, n: usize, holders: Holders) -> [Option<Unknown>; LIMIT]
-    requires { (n ≤ limit) × Full n n (occurs_at table.now) (held holders) }
-    ensures { FirstIs n (occurs_at table.now) result }
+pub fn first(table: &Table, holders: Holders) -> [Option<Unknown>; LIMIT]
+    requires { (table.now.equations ≡ table.now.unknowns) × Full table.now.equations table.now.equations (occurs_at table.now.rows) (held holders) }
+    ensures { FirstIs table.now.equations (occurs_at table.now.rows) result }
 {
-    let settled = all_settled(table, n, holders);
+    let settled = all_settled(table, holders);
     let mut partners = [None; LIMIT];
-    for e in 0..n {
-        partners[e] = held_by(n, Equation::at(e), &settled);
+    for e in 0..table.equations {
+        partners[e] = held_by(table.equations, Equation::at(e), &settled);
     }
     partners
 }

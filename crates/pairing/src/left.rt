@@ -10,9 +10,9 @@ ghost use Rattle.pairing.specs.Handed.{LeftIs};
 
 use crate::search::search;
 use crate::{Holders, Marks};
+use table::LIMIT;
 use table::number::{Counted, Equation};
-use table::rows::transposed;
-use table::{LIMIT, Rows};
+use table::rows::Table;
 
 #[derive(Clone, Copy)]
 struct Pairs {
@@ -29,14 +29,13 @@ pub struct Left {
 }
 
 // A largest pairing. Each equation searches once; those that a failed search asked stay asked, for no later search can use them.
-fn largest(table: &Rows, equations: usize, unknowns: usize) -> Pairs
-    requires { (equations ≤ limit) × (unknowns ≤ limit) }
-    ensures { Certificate equations unknowns (occurs_at table.now) (held result.holders) (marked result.over) }
+fn largest(table: &Table) -> Pairs
+    ensures { Certificate table.now.equations table.now.unknowns (occurs_at table.now.rows) (held result.holders) (marked result.over) }
 {
     let mut holders = [None; LIMIT];
     let mut over = [false; LIMIT];
-    for e in 0..equations {
-        let answer = search(table, unknowns, Equation::at(e), holders, over);
+    for e in 0..table.equations {
+        let answer = search(table, Equation::at(e), holders, over);
         if answer.got.is_some() {
             holders = answer.holders;
         } else {
@@ -62,16 +61,15 @@ fn held_count(unknowns: usize, holders: &Holders) -> u8
 }
 
 // The rank, and who may be left over. Unknowns are judged as the equations of the transposed table.
-pub fn left_over(table: &Rows, equations: usize, unknowns: usize) -> Left
-    requires { (equations ≤ limit) × (unknowns ≤ limit) }
-    ensures { LeftIs equations unknowns (occurs_at table.now) result.rank result.surplus result.unfixed }
+pub fn left_over(table: &Table) -> Left
+    ensures { LeftIs table.now.equations table.now.unknowns (occurs_at table.now.rows) result.rank result.surplus result.unfixed }
 {
-    let pairs = largest(table, equations, unknowns);
-    let other = largest(&transposed(table), unknowns, equations);
+    let pairs = largest(table);
+    let other = largest(&table.transposed());
     let surplus = pairs.over;
     let unfixed = other.over;
     Left {
-        rank: held_count(unknowns, &pairs.holders),
+        rank: held_count(table.unknowns, &pairs.holders),
         surplus,
         unfixed,
     }

@@ -7,9 +7,8 @@ ghost use Rattle.pairing.specs.Holders.{Asking, Searched};
 ghost use Rattle.pairing.specs.Looking.{AllHeld, FreeIn, NextIn};
 
 use crate::{Holders, Marks};
-use table::Rows;
 use table::number::{Counted, Equation, Unknown};
-use table::rows::occurs;
+use table::rows::Table;
 
 #[derive(Clone, Copy)]
 pub struct Answer {
@@ -22,18 +21,13 @@ pub struct Answer {
 }
 
 // The lowest unknown of the asker that nobody holds.
-fn free_unknown(
-    table: &Rows,
-    unknowns: usize,
-    asker: Equation,
-    holders: &Holders,
-) -> Option<Unknown>
-    requires { (equation_number asker ≤ limit) × (unknowns ≤ limit) }
-    ensures { FreeIn unknowns (occurs_at table.now) (equation_number asker - 1) holders.now (or_zero unknown_number result) }
+fn free_unknown(table: &Table, asker: Equation, holders: &Holders) -> Option<Unknown>
+    requires { equation_number asker ≤ limit }
+    ensures { FreeIn table.now.unknowns (occurs_at table.now.rows) (equation_number asker - 1) holders.now (or_zero unknown_number result) }
 {
-    for u in 0..unknowns {
+    for u in 0..table.unknowns {
         let unknown = Unknown::at(u);
-        if occurs(table, asker, unknown) && holders[u].is_none() {
+        if table.occurs(asker, unknown) && holders[u].is_none() {
             return Some(unknown);
         }
     }
@@ -42,19 +36,18 @@ fn free_unknown(
 
 // The lowest unknown of the asker, from a place on, whose holder was not asked yet.
 fn next_held(
-    table: &Rows,
-    unknowns: usize,
+    table: &Table,
     asker: Equation,
     from: usize,
     holders: &Holders,
     asked: &Marks,
 ) -> Option<Unknown>
-    requires { (equation_number asker ≤ limit) × (unknowns ≤ limit) × AllHeld unknowns (occurs_at table.now) (equation_number asker - 1) holders.now }
-    ensures { NextIn unknowns (occurs_at table.now) (equation_number asker - 1) from holders.now asked.now (or_zero unknown_number result) }
+    requires { (equation_number asker ≤ limit) × AllHeld table.now.unknowns (occurs_at table.now.rows) (equation_number asker - 1) holders.now }
+    ensures { NextIn table.now.unknowns (occurs_at table.now.rows) (equation_number asker - 1) from holders.now asked.now (or_zero unknown_number result) }
 {
-    for u in from..unknowns {
+    for u in from..table.unknowns {
         let unknown = Unknown::at(u);
-        if occurs(table, asker, unknown) && !asked[holders[u].unwrap().place()] {
+        if table.occurs(asker, unknown) && !asked[holders[u].unwrap().place()] {
             return Some(unknown);
         }
     }
@@ -62,22 +55,16 @@ fn next_held(
 }
 
 // One search. It calls itself on the present holder of an unknown that it needs; what falls is the number of those not yet asked.
-pub fn search(
-    table: &Rows,
-    unknowns: usize,
-    asker: Equation,
-    holders: Holders,
-    asked: Marks,
-) -> Answer
-    requires { Asking limit unknowns (occurs_at table.now) (equation_number asker - 1) asked holders }
-    ensures { (m : ℕ) → Asking m unknowns (occurs_at table.now) (equation_number asker - 1) asked holders
-        → Searched m unknowns (occurs_at table.now) (equation_number asker - 1) asked holders
+pub fn search(table: &Table, asker: Equation, holders: Holders, asked: Marks) -> Answer
+    requires { Asking limit table.now.unknowns (occurs_at table.now.rows) (equation_number asker - 1) asked holders }
+    ensures { (m : ℕ) → Asking m table.now.unknowns (occurs_at table.now.rows) (equation_number asker - 1) asked holders
+        → Searched m table.now.unknowns (occurs_at table.now.rows) (equation_number asker - 1) asked holders
         (or_zero unknown_number result.got) result.holders result.asked }
 {
     let mut holders = holders;
     let mut asked = asked;
     asked[asker.place()] = true;
-    let free = free_unknown(table, unknowns, asker, &holders);
+    let free = free_unknown(table, asker, &holders);
     if let Some(unknown) = free {
         holders[unknown.place()] = Some(asker);
         return Answer {
@@ -86,13 +73,13 @@ pub fn search(
             asked,
         };
     }
-    let mut wanted = next_held(table, unknowns, asker, 0, &holders, &asked);
+    let mut wanted = next_held(table, asker, 0, &holders, &asked);
     while let Some(unknown) = wanted {
         let place = unknown.place();
         let holder = holders[place].unwrap();
         // The asker has it while its holder looks for another; if there is none, the holder has it back.
         holders[place] = Some(asker);
-        let moved = search(table, unknowns, holder, holders, asked);
+        let moved = search(table, holder, holders, asked);
         if moved.got.is_some() {
             let holders = moved.holders;
             let asked = moved.asked;
@@ -104,7 +91,7 @@ pub fn search(
         }
         holders[place] = Some(holder);
         asked = moved.asked;
-        wanted = next_held(table, unknowns, asker, place + 1, &holders, &asked);
+        wanted = next_held(table, asker, place + 1, &holders, &asked);
     }
     Answer {
         got: None,

@@ -9,6 +9,7 @@ use crate::{LIMIT, Row, Rows};
 use laws::array::tabulated;
 
 // E equations and U unknowns, and what occurs where: codes, and 0 beyond the last equation and unknown.
+#[derive(Drop)]
 pub struct Table {
     pub equations: usize,
     pub unknowns: usize,

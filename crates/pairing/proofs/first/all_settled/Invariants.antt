@@ -4,4 +4,4 @@ use Rattle.pairing.specs.Choosing.{Settled}
 use Rattle.pairing.proofs.first.all_settled.Given as goal
 
 abbrev pub invariant-loop-e : goal.invariant-loop-e
-invariant-loop-e l = Settled l.n (occurs_at l.table) l.holders l.e
+invariant-loop-e l = Settled l.table.equations (occurs_at l.table.rows) l.holders l.e

@@ -6,4 +6,4 @@ use Rattle.pairing.proofs.Settling.{NoneBelow}
 use Rattle.pairing.proofs.first.settled.Given as goal
 
 abbrev pub invariant-loop-u : goal.invariant-loop-u
-invariant-loop-u l = NoneBelow l.n (occurs_at l.table) l.holders (equation_number l.e - 1) l.u
+invariant-loop-u l = NoneBelow l.table.equations (occurs_at l.table.rows) l.holders (equation_number l.e - 1) l.u

@@ -46,7 +46,7 @@ pub unwrap-own-requires : goal.unwrap-own-requires
 unwrap-own-requires c = let o = (owns c.requires.3 (search rules) c.held_by.ensures).0 in has_unknown _ (omega arith)
 
 -- the holder of the unknown stands after the equation
-asked : (c : After-up_to) → Asked c.args.n (occurs_at c.args.table.now) c.args.holders.now (equation_number c.args.e - 1) (unknown_number c.args.u - 1) c.place-2.result (Some c.args.e)
+asked : (c : After-up_to) → Asked c.args.table.now.equations (occurs_at c.args.table.now.rows) c.args.holders.now (equation_number c.args.e - 1) (unknown_number c.args.u - 1) c.place-2.result (Some c.args.e)
 asked c =
     let positive = c.args.e.0.ok in
     let n = number c.args.holders.now _ _ _ _ c.place.ensures (search rules) c.unwrap-holder.ensures in
@@ -54,7 +54,7 @@ asked c =
     let later : equation_number c.args.e < equation_number c.unwrap-holder.result = search rules in
     record {
       full = c.requires.3;
-      limits = c.requires.2;
+      limits = c.args.table.now.few.0;
       equation = search rules;
       unknown = search rules;
       all = search rules;
@@ -74,11 +74,11 @@ pub search-answer-requires : goal.search-answer-requires
 search-answer-requires c =
     let p = (goal.at.search-answer-requires c).After-up_to in
     let n = number c.args.holders.now _ _ _ _ c.place.ensures (search rules) c.unwrap-holder.ensures in
-    rw (marks-up p, c.place-3.ensures) (rw n at (widen (swapped_asks (asked p))))
+    rw (marks-up p, c.place-3.ensures, ← c.requires.2) (rw n at (widen (swapped_asks (asked p))))
 
 pub returns : goal.returns
 returns c =
     let p = (goal.at.returns c).After-up_to in
     let n = number c.args.holders.now _ _ _ _ c.place.ensures (search rules) c.unwrap-holder.ensures in
-    let s = (rw (marks-up p, c.place-3.ensures) at c.search-answer.ensures) c.args.n (rw n at (swapped_asks (asked p))) in
+    let s = (rw (marks-up p, c.place-3.ensures, ← c.requires.2) at c.search-answer.ensures) c.args.table.now.equations (rw n at (swapped_asks (asked p))) in
     rw (c.then_some-2.ensures) (tried_is c.is_some.result (rw (c.is_some.ensures, ← told_unknown c.search-answer.result.got) (swapped_tried (asked p) {b = c.search-answer.result.asked} (rw n s))))

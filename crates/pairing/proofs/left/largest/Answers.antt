@@ -19,7 +19,7 @@ use Rattle.pairing.proofs.left.largest.Goals as goal
 use Rattle.pairing.proofs.left.largest.Goals.{After-at, then-is_some, else-is_some}
 
 -- the next equation may search
-asking : (c : After-at) → Asking c.args.equations c.args.unknowns (occurs_at c.args.table.now) (equation_number c.at.result - 1) c.loop-e.over c.loop-e.holders
+asking : (c : After-at) → Asking c.args.table.now.equations c.args.table.now.unknowns (occurs_at c.args.table.now.rows) (equation_number c.at.result - 1) c.loop-e.over c.loop-e.holders
 asking c =
     let place : equation_number c.at.result - 1 ≡ c.loop-e.e = omega arith in
     rw place (pass_asks c.loop-e.invariant (search rules) (search rules) (search rules))
@@ -37,7 +37,7 @@ loop-e-preserved c =
     let r = c.loop-e.invariant in
     let s = asking (goal.at.loop-e-preserved c).After-at in
     let place : equation_number c.at.result - 1 ≡ c.loop-e.e = omega arith in
-    let x = c.search-answer.ensures c.args.equations s in
+    let x = c.search-answer.ensures c.args.table.now.equations s in
     elim c.if-is_some.branch [
       | then-is_some w ↦ rw (w.holders-is, w.over-is)
           (pass_found r (rw place at (x.found (λ z. omega (arith, some_unknown c.search-answer.result.got (sym c.is_some.ensures ∙ w.if-is_some.true)))).0))

@@ -4,4 +4,4 @@ use Rattle.pairing.proofs.Pass.{Pass}
 use Rattle.pairing.proofs.left.largest.Given as goal
 
 abbrev pub invariant-loop-e : goal.invariant-loop-e
-invariant-loop-e l = Pass l.equations l.unknowns (occurs_at l.table) l.holders l.over l.e
+invariant-loop-e l = Pass l.table.equations l.table.unknowns (occurs_at l.table.rows) l.holders l.over l.e

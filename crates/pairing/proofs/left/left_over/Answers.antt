@@ -5,7 +5,6 @@ use mathlib.Core.List.{List}
 use Prim.Native.Nat.{ℕ, ◌<◌, ◌≤◌}
 use native.Mathlib.Omega.{arith}
 use lib.Dec.{eqb}
-use borrow.Author.Rules.{rules}
 use Rattle.table.specs.Model.{limit, code_at, occurs_at, turned}
 use Rattle.table.proofs.Model.{square_at}
 use Rattle.pairing.specs.Pairing.{turn}
@@ -19,7 +18,7 @@ turned-occurs t m n lm ln u e bu be = ap (λ (c : ℕ). not (eqb c 0)) (square_a
 pub returns : goal.returns
 returns c =
     let a = c.args in
-    let other = rw c.transposed.ensures at c.largest-other.ensures in
+    let other = rw (c.transposed.ensures.0, c.transposed.ensures.1, c.transposed.ensures.2) at c.largest-other.ensures in
     left_is c.largest-pairs.result.holders c.largest-pairs.ensures
-    (certificate_carry (turned-occurs a.table.now a.equations a.unknowns (search rules) (search rules)) other)
+    (certificate_carry (turned-occurs a.table.now.rows a.table.now.equations a.table.now.unknowns a.table.now.few.0 a.table.now.few.1) other)
     c.held_count.ensures

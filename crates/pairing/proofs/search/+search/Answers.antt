@@ -27,7 +27,7 @@ one-more : (e : Equation) → equation_number e ≡ suc (equation_number e - 1)
 one-more e = let p = e.0.ok in omega arith
 
 -- the wanted unknown and its holder
-wants : (t : ℕ) (c : After-unwrap-holder t) → Wanted c.args.unknowns (occurs_at c.args.table.now) (equation_number c.args.asker - 1) c.args.holders c.loop-wanted.asked c.place-place.result
+wants : (t : ℕ) (c : After-unwrap-holder t) → Wanted c.args.table.now.unknowns (occurs_at c.args.table.now.rows) (equation_number c.args.asker - 1) c.args.holders c.loop-wanted.asked c.place-place.result
 wants t c =
     let number = ap (or_zero unknown_number) c.in-Some-wanted.is in
     let positive = c.in-Some-wanted.unknown.0.ok in
@@ -76,7 +76,7 @@ returns-in-Some t c =
 pub next_held-wanted-requires : goal.next_held-wanted-requires
 next_held-wanted-requires t c =
     let s = c.requires in
-    (omega arith, s.unknowns, all_held s (ap (or_zero unknown_number) c.in_default.is) c.free_unknown-free.ensures)
+    (omega arith, all_held s (ap (or_zero unknown_number) c.in_default.is) c.free_unknown-free.ensures)
 
 pub search-moved-requires : goal.search-moved-requires
 search-moved-requires t c =
@@ -98,7 +98,7 @@ pub next_held-wanted-requires-in-Some-wanted : goal.next_held-wanted-requires-in
 next_held-wanted-requires-in-Some-wanted t c =
     let p = (goal.at.next_held-wanted-requires-in-Some-wanted t c).After-unwrap-holder in
     let s = c.requires in
-    (omega arith, s.unknowns, subst (AllHeld c.args.unknowns (occurs_at c.args.table.now) (equation_number c.args.asker - 1)) (sym (back t p)) (all_held s (ap (or_zero unknown_number) c.in_default.is) c.free_unknown-free.ensures))
+    (omega arith, subst (AllHeld c.args.table.now.unknowns (occurs_at c.args.table.now.rows) (equation_number c.args.asker - 1)) (sym (back t p)) (all_held s (ap (or_zero unknown_number) c.in_default.is) c.free_unknown-free.ensures))
 
 pub loop-wanted-smaller : goal.loop-wanted-smaller
 loop-wanted-smaller t c =

@@ -13,7 +13,7 @@ use Rattle.pairing.proofs.search.+search.Given as goal
 abbrev pub invariant-loop-wanted : goal.invariant-loop-wanted
 invariant-loop-wanted l =
     (l.holders ≡ l.initial.holders)
-    × Turn l.unknowns (occurs_at l.table) (equation_number l.asker - 1) l.initial.holders l.initial.asked l.asked (or_zero unknown_number l.wanted)
+    × Turn l.table.unknowns (occurs_at l.table.rows) (equation_number l.asker - 1) l.initial.holders l.initial.asked l.asked (or_zero unknown_number l.wanted)
     × (length l.asked ≡ limit)
 
 abbrev pub decreases-loop-wanted : goal.decreases-loop-wanted

@@ -8,4 +8,4 @@ use Rattle.pairing.specs.Holders.{holder}
 use Rattle.pairing.proofs.search.free_unknown.Given as goal
 
 abbrev pub invariant-loop-u : goal.invariant-loop-u
-invariant-loop-u l = (v : ℕ) → v < l.u → occurs_at l.table (equation_number l.asker - 1) v ≡ true → holder l.holders v ≡ 0 → ⊥
+invariant-loop-u l = (v : ℕ) → v < l.u → occurs_at l.table.rows (equation_number l.asker - 1) v ≡ true → holder l.holders v ≡ 0 → ⊥

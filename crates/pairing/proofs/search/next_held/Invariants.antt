@@ -6,4 +6,4 @@ use Rattle.pairing.proofs.Looking.{Passed}
 use Rattle.pairing.proofs.search.next_held.Given as goal
 
 abbrev pub invariant-loop-u : goal.invariant-loop-u
-invariant-loop-u l = Passed (occurs_at l.table) (equation_number l.asker - 1) l.from l.holders l.asked l.u
+invariant-loop-u l = Passed (occurs_at l.table.rows) (equation_number l.asker - 1) l.from l.holders l.asked l.u

@@ -1,6 +1,6 @@
 -- `Table::column` takes what each row has at the unknown's place.
 use Rattle.std.proofs.Common.{rules}
-use mathlib.Core.Path.{refl, ◌∙◌}
+use mathlib.Core.Path.{◌∙◌}
 use Prim.Native.Nat.{ℕ, ◌-◌}
 use Rattle.laws.proofs.Tab.{whole_tab}
 use Rattle.table.specs.Model.{limit, code_at}
