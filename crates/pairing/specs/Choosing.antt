@@ -1,8 +1,10 @@
 -- How the first full pairing is found: what the inner contracts cite.
 use Rattle.std.specs.Prelude.{◌≡◌, Bool, true, false, List, ℕ, ◌-◌, ◌<◌, ◌≤◌}
+use Rattle.std.specs.Option.{MatchOption}
 use Rattle.std.specs.declared.option.Option.{Option}
-use Rattle.std.specs.declared.option.Option.{Option}
+use Rattle.table.specs.Model.{occurs_at}
 use Rattle.table.specs.declared.number.Equation.{Equation}
+use Rattle.table.specs.declared.rows.Table.{Table}
 use Rattle.pairing.specs.Pairing.{Rel, Full}
 use Rattle.pairing.specs.Holders.{held}
 use Rattle.pairing.specs.First.{Partners}
@@ -27,3 +29,18 @@ pub record Tried (n : ℕ) (edge : Rel) (e u : ℕ) (holders : List (Option Equa
 pub record Settled (n : ℕ) (edge : Rel) (holders : List (Option Equation)) (k : ℕ) : Type 0 where
   pub full : Full n n edge (held holders)
   pub low : (q : ℕ → ℕ) (e : ℕ) → e < k → Keeps n edge holders e q → (u : ℕ) → held holders e u ≡ true → u ≤ q e
+
+-- a square table, all of whose equations have a pair
+pub record AllPaired (t : Table) (holders : List (Option Equation)) : Type 0 where
+  pub square : t.equations ≡ t.unknowns
+  pub full : Full t.equations t.equations (occurs_at t.rows) (held holders)
+
+-- a square table, settled as far as k
+pub record SettledIn (t : Table) (holders : List (Option Equation)) (k : ℕ) : Type 0 where
+  pub square : t.equations ≡ t.unknowns
+  pub settled : Settled t.equations (occurs_at t.rows) holders k
+
+-- the pairing in which e has u, or none where it cannot
+abbrev pub TriedIn : Table → ℕ → ℕ → List (Option Equation) → Option (List (Option Equation)) → Type 0
+TriedIn t e u holders after =
+    MatchOption after (Tried t.equations (occurs_at t.rows) e u holders false holders) (λ h. Tried t.equations (occurs_at t.rows) e u holders true h)

@@ -1,13 +1,11 @@
 // The first full pairing: equation 1 gets the lowest-numbered unknown with which all the others can still be paired, then
 // equation 2 likewise, and so on.
-ghost use Rattle.std.specs.Prelude.{◌≡◌, true, false, MatchOption, ◌-◌, ◌≤◌, ltb};
+ghost use Rattle.std.specs.Prelude.{◌≡◌, ◌-◌, ◌≤◌, ltb};
 ghost use Rattle.laws.specs.Tab.{tab};
 ghost use Rattle.table.specs.Model.{limit, occurs_at};
 ghost use Rattle.table.specs.Number.{equation_number, unknown_number, or_zero};
-ghost use Rattle.pairing.specs.Pairing.{Full};
-ghost use Rattle.pairing.specs.Holders.{held};
 ghost use Rattle.pairing.specs.Handed.{FirstIs};
-ghost use Rattle.pairing.specs.Choosing.{HeldBy, Tried, Settled};
+ghost use Rattle.pairing.specs.Choosing.{HeldBy, AllPaired, SettledIn, TriedIn};
 
 use crate::search::search;
 use crate::{Holders, Marks};
@@ -39,10 +37,8 @@ fn up_to(e: Equation) -> Marks
 
 // The pairing in which the equation has the unknown while those before it keep theirs, where all the others can still be paired.
 fn trial(table: &Table, e: Equation, u: Unknown, holders: &Holders) -> Option<Holders>
-    requires { (equation_number e ≤ table.now.equations) × (unknown_number u ≤ table.now.equations) × (table.now.equations ≡ table.now.unknowns)
-        × Full table.now.equations table.now.equations (occurs_at table.now.rows) (held holders.now) }
-    ensures { MatchOption result (Tried table.now.equations (occurs_at table.now.rows) (equation_number e - 1) (unknown_number u - 1) holders.now false holders.now)
-        (λ h. Tried table.now.equations (occurs_at table.now.rows) (equation_number e - 1) (unknown_number u - 1) holders.now true h) }
+    requires { (equation_number e ≤ table.now.equations) × (unknown_number u ≤ table.now.unknowns) × AllPaired table.now holders.now }
+    ensures { TriedIn table.now (equation_number e - 1) (unknown_number u - 1) holders.now result }
 {
     if !table.occurs(e, u) {
         return None;
@@ -52,7 +48,7 @@ fn trial(table: &Table, e: Equation, u: Unknown, holders: &Holders) -> Option<Ho
         // Its own already, or one that stands before it has it.
         return (holder == e).then_some(*holders);
     }
-    let own = held_by(table.equations, e, holders).unwrap();
+    let own = held_by(table.unknowns, e, holders).unwrap();
     let mut given = *holders;
     given[own.place()] = None;
     given[u.place()] = Some(e);
@@ -63,11 +59,10 @@ fn trial(table: &Table, e: Equation, u: Unknown, holders: &Holders) -> Option<Ho
 
 // The pairing in which the equation has the first unknown that it can have.
 fn settled(table: &Table, e: Equation, holders: &Holders) -> Holders
-    requires { (equation_number e ≤ table.now.equations) × (table.now.equations ≡ table.now.unknowns)
-        × Settled table.now.equations (occurs_at table.now.rows) holders.now (equation_number e - 1) }
-    ensures { Settled table.now.equations (occurs_at table.now.rows) result (equation_number e) }
+    requires { (equation_number e ≤ table.now.equations) × SettledIn table.now holders.now (equation_number e - 1) }
+    ensures { SettledIn table.now result (equation_number e) }
 {
-    for u in 0..table.equations {
+    for u in 0..table.unknowns {
         if let Some(tried) = trial(table, e, Unknown::at(u), holders) {
             return tried;
         }
@@ -77,8 +72,8 @@ fn settled(table: &Table, e: Equation, holders: &Holders) -> Holders
 
 // The pairing in which every equation in turn has the first unknown that it can have.
 fn all_settled(table: &Table, holders: Holders) -> Holders
-    requires { (table.now.equations ≡ table.now.unknowns) × Full table.now.equations table.now.equations (occurs_at table.now.rows) (held holders) }
-    ensures { Settled table.now.equations (occurs_at table.now.rows) result table.now.equations }
+    requires { AllPaired table.now holders }
+    ensures { SettledIn table.now result table.now.equations }
 {
     let mut holders = holders;
     for e in 0..table.equations {
@@ -89,13 +84,13 @@ fn all_settled(table: &Table, holders: Holders) -> Holders
 
 // The partners: the unknown of each equation in the first full pairing, from any full pairing; none beyond the last equation.
 pub fn first(table: &Table, holders: Holders) -> [Option<Unknown>; LIMIT]
-    requires { (table.now.equations ≡ table.now.unknowns) × Full table.now.equations table.now.equations (occurs_at table.now.rows) (held holders) }
+    requires { AllPaired table.now holders }
     ensures { FirstIs table.now.equations (occurs_at table.now.rows) result }
 {
     let settled = all_settled(table, holders);
     let mut partners = [None; LIMIT];
     for e in 0..table.equations {
-        partners[e] = held_by(table.equations, Equation::at(e), &settled);
+        partners[e] = held_by(table.unknowns, Equation::at(e), &settled);
     }
     partners
 }

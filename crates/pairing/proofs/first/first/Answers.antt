@@ -20,4 +20,4 @@ loop-e-init c =
 pub loop-e-preserved : goal.loop-e-preserved
 loop-e-preserved c =
     let place : equation_number c.at.result - 1 ≡ c.loop-e.e = omega arith in
-    read_next c.held_by.result (search rules) (search rules) c.all_settled-settled.ensures.full (rw place at c.held_by.ensures) c.loop-e.invariant
+    read_next c.held_by.result (search rules) (search rules) c.all_settled-settled.ensures.settled.full (rw (place, ← c.requires.square) at c.held_by.ensures) c.loop-e.invariant

@@ -12,7 +12,7 @@ returns-in-Some c =
     let place : unknown_number c.at.result - 1 ≡ c.loop-u.u = omega arith in
     let positive = c.args.e.0.ok in
     let number : suc (equation_number c.args.e - 1) ≡ equation_number c.args.e = omega arith in
-    rw number at (settle_hit (search rules) c.requires.2 (rw place at c.in-Some.ensures) c.loop-u.invariant)
+    record { square = c.requires.1.square; settled = rw number at (settle_hit (search rules) c.requires.1.settled (rw place at c.in-Some.ensures) c.loop-u.invariant) }
 
 pub loop-u-preserved : goal.loop-u-preserved
 loop-u-preserved c =
@@ -20,4 +20,4 @@ loop-u-preserved c =
     none_next c.loop-u.invariant (rw place at c.in_default.ensures)
 
 pub returns : goal.returns
-returns c = absurd (settle_some (search rules) c.loop-u-test.false c.requires.2 c.loop-u.invariant)
+returns c = absurd (settle_some (search rules) (rw (← c.requires.1.square) at c.loop-u-test.false) c.requires.1.settled c.loop-u.invariant)

@@ -26,7 +26,7 @@ pub unwrap-holder-requires : goal.unwrap-holder-requires
 unwrap-holder-requires c =
     let h = c.args.holders.now in
     let b : c.place.result < length h = search rules in
-    given ((full_turned refl c.requires.3).every (unknown_number c.args.u - 1) (search rules)) (λ (i, x).
+    given ((full_turned refl c.requires.2.full).every (unknown_number c.args.u - 1) (search rules)) (λ (i, x).
     let y = rw (← c.place.ensures) at (eqb-true (holder h (unknown_number c.args.u - 1)) (suc i) x) in
     has_equation _ (rw (get_or_default h c.place.result c.index-holders-place.result None b) (omega arith)))
 
@@ -39,21 +39,21 @@ returns-then-le c =
     let positive = c.args.e.0.ok in
     let n = number c.args.holders.now _ _ _ _ c.place.ensures (search rules) c.unwrap-holder.ensures in
     let below : equation_number c.unwrap-holder.result ≤ equation_number c.args.e = le_from_is_le _ _ (sym c.le.ensures ∙ c.if-le.true) in
-    let t = tried_held {e = equation_number c.args.e - 1} {u = unknown_number c.args.u - 1} {x = equation_number c.args.e} c.requires.3 (search rules) (search rules) (omega arith) (rw n below) in
+    let t = tried_held {e = equation_number c.args.e - 1} {u = unknown_number c.args.u - 1} {x = equation_number c.args.e} c.requires.2.full (search rules) (search rules) (omega arith) (rw n below) in
     rw (c.then_some.ensures) (tried_is c.eq.result (rw (c.eq.ensures) (rw n at t)))
 
 pub unwrap-own-requires : goal.unwrap-own-requires
-unwrap-own-requires c = let o = (owns c.requires.3 (search rules) c.held_by.ensures).0 in has_unknown _ (omega arith)
+unwrap-own-requires c = let o = (owns c.requires.2.full (search rules) (rw (← c.requires.2.square) at c.held_by.ensures)).0 in has_unknown _ (omega arith)
 
 -- the holder of the unknown stands after the equation
 asked : (c : After-up_to) → Asked c.args.table.now.equations (occurs_at c.args.table.now.rows) c.args.holders.now (equation_number c.args.e - 1) (unknown_number c.args.u - 1) c.place-2.result (Some c.args.e)
 asked c =
     let positive = c.args.e.0.ok in
     let n = number c.args.holders.now _ _ _ _ c.place.ensures (search rules) c.unwrap-holder.ensures in
-    let own = (owns c.requires.3 (search rules) c.held_by.ensures).1.1 in
+    let own = (owns c.requires.2.full (search rules) (rw (← c.requires.2.square) at c.held_by.ensures)).1.1 in
     let later : equation_number c.args.e < equation_number c.unwrap-holder.result = search rules in
     record {
-      full = c.requires.3;
+      full = c.requires.2.full;
       limits = c.args.table.now.few.0;
       equation = search rules;
       unknown = search rules;
@@ -74,11 +74,11 @@ pub search-answer-requires : goal.search-answer-requires
 search-answer-requires c =
     let p = (goal.at.search-answer-requires c).After-up_to in
     let n = number c.args.holders.now _ _ _ _ c.place.ensures (search rules) c.unwrap-holder.ensures in
-    rw (marks-up p, c.place-3.ensures, ← c.requires.2) (rw n at (widen (swapped_asks (asked p))))
+    rw (marks-up p, c.place-3.ensures, ← c.requires.2.square) (rw n at (widen (swapped_asks (asked p))))
 
 pub returns : goal.returns
 returns c =
     let p = (goal.at.returns c).After-up_to in
     let n = number c.args.holders.now _ _ _ _ c.place.ensures (search rules) c.unwrap-holder.ensures in
-    let s = (rw (marks-up p, c.place-3.ensures, ← c.requires.2) at c.search-answer.ensures) c.args.table.now.equations (rw n at (swapped_asks (asked p))) in
+    let s = (rw (marks-up p, c.place-3.ensures, ← c.requires.2.square) at c.search-answer.ensures) c.args.table.now.equations (rw n at (swapped_asks (asked p))) in
     rw (c.then_some-2.ensures) (tried_is c.is_some.result (rw (c.is_some.ensures, ← told_unknown c.search-answer.result.got) (swapped_tried (asked p) {b = c.search-answer.result.asked} (rw n s))))
