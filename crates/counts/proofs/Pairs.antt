@@ -36,8 +36,5 @@ module _ {n : ℕ} {edge : Rel} {f : ℕ} {h : List Equation} (p : Paired n edge
     waiting = λ e l u m. either (got.none_else e (u, m)) (λ z. absurd (omega arith)) (λ (v, k). p.waiting e (omega arith) v k);
   }
 
-  pub went_all : (a : List Bool) → f ≡ n → Went n edge n h a
-  went_all a q = record { upto = rw q at p; far = omega arith; stopped = λ l. absurd (omega arith) }
-
   pub went_some : {a : List Bool} → f < n → Nothing n edge f (replicate limit false) a h → Went n edge f h a
   went_some l none = record { upto = p; far = omega arith; stopped = λ _. none }

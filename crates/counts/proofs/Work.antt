@@ -22,7 +22,7 @@ use Rattle.pairing.specs.Holders.{holder, held, Reach, Nothing}
 use Rattle.pairing.proofs.Hall.{reach_within}
 use Rattle.counts.specs.Fit.{leading}
 use Rattle.counts.specs.Work.{top_order, high_at, tops_of, leading_at, leading_rows, Small, Pairable, Chosen}
-use Rattle.counts.specs.Kept.{KeptIn, Paired, raised_by}
+use Rattle.counts.specs.Kept.{KeptIn, Paired, Went, raised_by}
 use Rattle.counts.proofs.Over.{over_reach}
 use Rattle.counts.proofs.Pairs.{over_paired}
 use Rattle.counts.proofs.Raising.{AskedInVain, raised}
@@ -106,6 +106,10 @@ module _ (n : ℕ) (t : List (List ℕ)) (counts : List ℕ) (small : n ≤ limi
       → KeptIn n t f' counts holders'
   from_paired f f' holders holders' p q = record { upto = over_paired q (λ e u h k l. to_lead e u l); low = p.low; room = p.room; beyond = p.beyond }
 
+-- what a raise brings nearer: the tops' sum to the counts' sum
+abbrev Nearer : ℕ → List (List ℕ) → List ℕ → List ℕ → Type 0
+Nearer n t counts next = sum n (high_at n t next) - sum n (number_at next) < sum n (high_at n t counts) - sum n (number_at counts)
+
 module _ (n : ℕ) (t : List (List ℕ)) (can : Pairable n t) where
   pub orders : (e u : ℕ) → e < n → u < n → order_at t e u ≤ top_order
   orders e u h k = let c = can.bounded.codes e u h k in omega arith
@@ -146,13 +150,20 @@ module _ (n : ℕ) (t : List (List ℕ)) (can : Pairable n t) where
             (λ w. get_or_past limit (λ e. pick (ltb e n) (number_at counts e + bit (marked asked e)) 0) e 0 (ltb-false e limit w)) in
             omega arith)
 
-    pub raise_in : KeptIn n t f (raised_by n counts asked) holders
-    raise_in = rw raised_list (raise n (occurs_at t) (order_at t) can.pairs can.full f (number_at counts) (held holders) (marked asked) p
-        (stuck n t counts can.bounded.equations f holders asked b p none))
+    raise_in : KeptIn n t f (raised_by n counts asked) holders × Nearer n t counts (raised_by n counts asked)
+    raise_in =
+        let vain = stuck n t counts can.bounded.equations f holders asked b p none in
+        rw raised_list (
+          raise n (occurs_at t) (order_at t) can.pairs can.full f (number_at counts) (held holders) (marked asked) p vain,
+          nearer n (occurs_at t) (order_at t) can.pairs can.full f (number_at counts) (held holders) (marked asked) p vain,
+        )
 
-    pub nearer_in : sum n (high_at n t (raised_by n counts asked)) - sum n (number_at (raised_by n counts asked)) < sum n (high_at n t counts) - sum n (number_at counts)
-    nearer_in = rw raised_list (nearer n (occurs_at t) (order_at t) can.pairs can.full f (number_at counts) (held holders) (marked asked) p
-        (stuck n t counts can.bounded.equations f holders asked b p none))
+  -- a pairing that went on and stopped, and then a raise
+  pub risen : (f : ℕ) (counts : List ℕ) (holders : List Equation) → KeptIn n t f counts holders
+      → (f' : ℕ) (holders' : List Equation) (asked : List Bool) → f' < n → Went n (rows_of n t counts) f' holders' asked
+      → KeptIn n t f' (raised_by n counts asked) holders' × Nearer n t counts (raised_by n counts asked)
+  risen f counts holders p f' holders' asked b went =
+      raise_in f' counts holders' asked b (from_paired n t counts can.bounded.equations f f' holders holders' p went.upto) (went.stopped b)
 
   -- after the last search
   pub answer : (counts : List ℕ) (holders : List Equation) → KeptIn n t n counts holders → Chosen n t counts (tops_of n t counts) holders
