@@ -1,13 +1,12 @@
 -- What the library says of a list's first n numbers, by place: their sum, and the largest of them.
 use mathlib.Core.Path.{◌≡◌, refl, ◌∙◌}
-use mathlib.Core.List.{List, [], ◌∷◌}
+use mathlib.Core.List.{List}
 use Prim.Native.Nat.{ℕ, zero, suc, ◌+◌, ◌≤◌, max}
-use native.Mathlib.Numerals.{add-one, unary_clauses}
+use native.Mathlib.Numerals.{add-one}
 use native.Mathlib.Nat.{max_comm}
 use native.Mathlib.Omega.{arith}
 use lib.ListN.{length, take}
-use Rattle.std.specs.List.{fold, sum_by, reduce}
-use Rattle.std.specs.Option.{unwrap_or}
+use Rattle.std.specs.List.{fold, sum_by}
 use Rattle.std.proofs.lemmas.List.Sums.{fold_more, sum_by_more}
 use Rattle.laws.specs.Count.{sum}
 use Rattle.laws.specs.Tab.{number_at}
@@ -25,8 +24,3 @@ sum_first (suc n) l h =
     let more : sum_by (λ x. x) (take (n + 1) l) ≡ sum_by (λ x. x) (take n l) + number_at l n = sum_by_more (λ x. x) l n 0 h in
     let r = sum_first n l (omega arith) in
     (rw (add-one n) at more) ∙ omega arith
-
--- the largest, where none counts as 0
-pub largest_or_none : (l : List ℕ) → unwrap_or (reduce max l) 0 ≡ fold max 0 l
-largest_or_none [] = refl
-largest_or_none (x ∷ l) = simp unary_clauses refl

@@ -12,7 +12,7 @@ use table::LIMIT;
 fn most(numbers: &[u8]) -> u8
     ensures { result ≡ fold max 0 numbers.now }
 {
-    numbers.iter().copied().max().unwrap_or(0)
+    numbers.iter().fold(0, |most, &number| most.max(number))
 }
 
 // Index: the largest count.
@@ -24,7 +24,7 @@ pub fn index(n: usize, counts: &[u8; LIMIT]) -> u8
     most(&counts[..n])
 }
 
-// The sum of the first n numbers.
+// The sum of the numbers.
 fn total(numbers: &[u8]) -> usize
     requires { length numbers.now ≤ limit }
     ensures { result ≡ sum_by (λ x. x) numbers.now }
