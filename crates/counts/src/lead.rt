@@ -5,20 +5,13 @@ ghost use Rattle.laws.specs.Tab.{tab, pick};
 ghost use Rattle.table.specs.Model.{limit, top_code};
 ghost use Rattle.counts.specs.Work.{top_order, Small, leading_at, leading_rows};
 
+use crate::tops::lifted;
 use laws::array::tabulated;
 use table::LIMIT;
 use table::number::Equation;
 use table::rows::row;
 
-// An occurrence is leading when its top is order + count; where the unknown does not occur nothing is.
-fn leads(code: u8, count: u8, top: u8) -> u8
-    requires { (code ≤ top_code) × (count ≤ limit * top_order) }
-    ensures { result ≡ bit (not (eqb code 0) && eqb top (code - 1 + count)) }
-{
-    u8::from(code != 0 && top == code - 1 + count)
-}
-
-// The row of one equation.
+// The row of one equation. An occurrence is leading when its top is order + count; where the unknown does not occur nothing is.
 fn lead_row(
     table: &[[u8; LIMIT]; LIMIT],
     n: usize,
@@ -32,7 +25,7 @@ fn lead_row(
     let at = e.place();
     let count = counts[at];
     let codes = row(table, e);
-    tabulated(n, 0, |u| leads(codes[u], count, tops[u]))
+    tabulated(n, 0, |u| u8::from(lifted(codes[u], count) == Some(tops[u])))
 }
 
 // The table of leading occurrences, for the crates that look at those alone.

@@ -9,12 +9,12 @@ use table::LIMIT;
 use table::number::{Equation, Unknown};
 use table::rows::code;
 
-// Order + count at an occurrence. Code 0 is no order at all: where the unknown does not occur nothing is asked of its top.
-fn lifted(code: u8, count: u8) -> u8
+// Order + count at an occurrence, and none where the unknown does not occur: code 0 is no order at all.
+pub(crate) fn lifted(code: u8, count: u8) -> Option<u8>
     requires { (code ≤ top_code) × (count ≤ limit * top_order) }
-    ensures { result ≡ pick (not (eqb code 0)) (code - 1 + count) 0 }
+    ensures { result ≡ pick (not (eqb code 0)) (Some (code - 1 + count)) None }
 {
-    if code == 0 { 0 } else { code - 1 + count }
+    code.checked_sub(1).map(|order| order + count)
 }
 
 // The largest order + count over the occurrences of one unknown.
@@ -24,7 +24,8 @@ fn top(table: &[[u8; LIMIT]; LIMIT], n: usize, u: Unknown, counts: &[u8; LIMIT])
 {
     let mut most = 0;
     for e in 0..n {
-        most = lifted(code(table, Equation::at(e), u), counts[e]).max(most);
+        let here = lifted(code(table, Equation::at(e), u), counts[e]);
+        most = here.unwrap_or(0).max(most);
     }
     most
 }
