@@ -15,7 +15,10 @@ use Rattle.laws.proofs.Tests.{test, either, given, clash, tests, not_true, and_l
 use Rattle.laws.proofs.Sum.{bit_false}
 use Rattle.laws.proofs.Tab.{get_or_tab, get_or_past, copies_at}
 use Rattle.table.specs.Model.{limit, code_at, occurs_at, order_at, square}
+use Rattle.std.specs.declared.option.Option.{Option}
+use Rattle.std.specs.declared.option.Option.TheVariants.{None}
 use Rattle.table.specs.declared.number.Equation.{Equation}
+use Rattle.table.specs.Number.{equation_number, or_zero}
 use Rattle.table.proofs.Model.{square_at}
 use Rattle.pairing.specs.Pairing.{Rel}
 use Rattle.pairing.specs.Holders.{holder, held, Reach, Nothing}
@@ -84,7 +87,7 @@ module _ (n : ℕ) (t : List (List ℕ)) (counts : List ℕ) (small : n ≤ limi
   to_lead e u o = given (rows_within n t counts (tops_of n t counts) small e u o) (λ (h, k). sym (same e u h k) ∙ o)
 
   -- a search that found nothing
-  pub stuck : (f : ℕ) (holders : List Equation) (asked : List Bool) → f < n → KeptIn n t f counts holders
+  pub stuck : (f : ℕ) (holders : List (Option Equation)) (asked : List Bool) → f < n → KeptIn n t f counts holders
       → Nothing n (rows_of n t counts) f (replicate limit false) asked holders → AskedInVain n n (lead_of n t counts) (held holders) f (marked asked)
   stuck f holders asked b p none = record {
     asker = b;
@@ -99,10 +102,10 @@ module _ (n : ℕ) (t : List (List ℕ)) (counts : List ℕ) (small : n ≤ limi
       reached e m = either (none.reached e m) (λ before. clash before (copies_at limit false e)) (λ r. over_reach to_lead r)
 
   -- what is paired, over the table of leading occurrences, and back
-  pub to_paired : (f : ℕ) (holders : List Equation) → KeptIn n t f counts holders → Paired n (rows_of n t counts) f (held holders)
+  pub to_paired : (f : ℕ) (holders : List (Option Equation)) → KeptIn n t f counts holders → Paired n (rows_of n t counts) f (held holders)
   to_paired f holders p = over_paired p.upto (λ e u h k l. same e u h k ∙ l)
 
-  pub from_paired : (f f' : ℕ) (holders holders' : List Equation) → KeptIn n t f counts holders → Paired n (rows_of n t counts) f' (held holders')
+  pub from_paired : (f f' : ℕ) (holders holders' : List (Option Equation)) → KeptIn n t f counts holders → Paired n (rows_of n t counts) f' (held holders')
       → KeptIn n t f' counts holders'
   from_paired f f' holders holders' p q = record { upto = over_paired q (λ e u h k l. to_lead e u l); low = p.low; room = p.room; beyond = p.beyond }
 
@@ -115,15 +118,17 @@ module _ (n : ℕ) (t : List (List ℕ)) (can : Pairable n t) where
   orders e u h k = let c = can.bounded.codes e u h k in omega arith
 
   -- before the first search
-  pub begin_in : KeptIn n t 0 (replicate limit 0) (replicate limit (record { 0 = 0 }))
-  begin_in = begin n (occurs_at t) (order_at t) (number_at (replicate limit 0)) (held (replicate limit (record { 0 = 0 }))) orders (λ e. copies_at {A = ℕ} limit 0 e)
+  pub begin_in : KeptIn n t 0 (replicate limit 0) (replicate limit None)
+  begin_in =
+      let nobody : List (Option Equation) = replicate limit None in
+      begin n (occurs_at t) (order_at t) (number_at (replicate limit 0)) (held nobody) orders (λ e. copies_at {A = ℕ} limit 0 e)
       (λ e u m.
-      let z : holder (replicate limit (record { 0 = 0 })) u ≡ 0 = ap (λ (x : Equation). x.0) (copies_at {A = Equation} limit (record { 0 = 0 }) u) in
-      let k = eqb-true (holder (replicate limit (record { 0 = 0 })) u) (suc e) m in
+      let z : holder nobody u ≡ 0 = ap (or_zero equation_number) (copies_at {A = Option Equation} limit None u) in
+      let k = eqb-true (holder nobody u) (suc e) m in
       omega arith)
 
   -- order + count fits a byte all the way
-  pub small_in : (f : ℕ) (counts : List ℕ) (holders : List Equation) → KeptIn n t f counts holders → Small n t counts
+  pub small_in : (f : ℕ) (counts : List ℕ) (holders : List (Option Equation)) → KeptIn n t f counts holders → Small n t counts
   small_in f counts holders p = record {
     bounded = can.bounded;
     few = λ e h. let k = count_few n (occurs_at t) (order_at t) can.pairs can.full f (number_at counts) (held holders) p e h in
@@ -131,7 +136,7 @@ module _ (n : ℕ) (t : List (List ℕ)) (can : Pairable n t) where
   }
 
   -- one raise of the list
-  module _ (f : ℕ) (counts : List ℕ) (holders : List Equation) (asked : List Bool) (b : f < n) (p : KeptIn n t f counts holders)
+  module _ (f : ℕ) (counts : List ℕ) (holders : List (Option Equation)) (asked : List Bool) (b : f < n) (p : KeptIn n t f counts holders)
       (none : Nothing n (rows_of n t counts) f (replicate limit false) asked holders) where
     raised_list : number_at (raised_by n counts asked) ≡ raised (number_at counts) (marked asked)
     raised_list = fun_ext at_each
@@ -159,14 +164,14 @@ module _ (n : ℕ) (t : List (List ℕ)) (can : Pairable n t) where
         )
 
   -- a pairing that went on and stopped, and then a raise
-  pub risen : (f : ℕ) (counts : List ℕ) (holders : List Equation) → KeptIn n t f counts holders
-      → (f' : ℕ) (holders' : List Equation) (asked : List Bool) → f' < n → Went n (rows_of n t counts) f' holders' asked
+  pub risen : (f : ℕ) (counts : List ℕ) (holders : List (Option Equation)) → KeptIn n t f counts holders
+      → (f' : ℕ) (holders' : List (Option Equation)) (asked : List Bool) → f' < n → Went n (rows_of n t counts) f' holders' asked
       → KeptIn n t f' (raised_by n counts asked) holders' × Nearer n t counts (raised_by n counts asked)
   risen f counts holders p f' holders' asked b went =
       raise_in f' counts holders' asked b (from_paired n t counts can.bounded.equations f f' holders holders' p went.upto) (went.stopped b)
 
   -- after the last search
-  pub answer : (counts : List ℕ) (holders : List Equation) → KeptIn n t n counts holders → Chosen n t counts (tops_of n t counts) holders
+  pub answer : (counts : List ℕ) (holders : List (Option Equation)) → KeptIn n t n counts holders → Chosen n t counts (tops_of n t counts) holders
   answer counts holders p =
       let tops = tops_at n t counts can.bounded.equations in
       record {

@@ -6,7 +6,7 @@ ghost use Rattle.table.specs.Model.{limit};
 ghost use Rattle.counts.specs.Fit.{index_of, freedom_of};
 ghost use Rattle.laws.specs.Tab.{number_at};
 
-use table::LIMIT;
+use table::Row;
 
 // The largest of the numbers, and 0 where there is none.
 fn most(numbers: &[u8]) -> u8
@@ -17,7 +17,7 @@ fn most(numbers: &[u8]) -> u8
 
 // Index: the largest count.
 #[tactic(auto, using(crate::proofs::Places::largest_first))]
-pub fn index(n: usize, counts: &[u8; LIMIT]) -> u8
+pub fn index(n: usize, counts: &Row) -> u8
     requires { n ≤ limit }
     ensures { result ≡ index_of n (number_at counts.now) }
 {
@@ -34,7 +34,7 @@ fn total(numbers: &[u8]) -> usize
 
 // Freedom: sum of tops less sum of counts. Of a fit choice it is at most 3 for each equation, so it fits.
 #[tactic(auto, using(crate::proofs::Places::sum_first))]
-pub fn freedom(n: usize, counts: &[u8; LIMIT], tops: &[u8; LIMIT]) -> u8
+pub fn freedom(n: usize, counts: &Row, tops: &Row) -> u8
     requires { (n ≤ limit) × (sum n (number_at counts.now) ≤ sum n (number_at tops.now))
         × (freedom_of n n (number_at counts.now) (number_at tops.now) ≤ 255) }
     ensures { result ≡ freedom_of n n (number_at counts.now) (number_at tops.now) }

@@ -3,24 +3,19 @@ ghost use Rattle.std.specs.Prelude.{◌≡◌, not, ◌&&◌, ◌+◌, ◌-◌, 
 ghost use Rattle.laws.specs.Count.{bit};
 ghost use Rattle.laws.specs.Tab.{tab, pick};
 ghost use Rattle.table.specs.Model.{limit, top_code};
+ghost use Rattle.table.specs.Number.{equation_number};
 ghost use Rattle.counts.specs.Work.{top_order, Small, leading_at, leading_rows};
 
 use crate::tops::lifted;
 use laws::array::tabulated;
-use table::LIMIT;
-use table::number::Equation;
+use table::number::{Counted, Equation};
 use table::rows::row;
+use table::{LIMIT, Row, Rows};
 
 // The row of one equation. An occurrence is leading when its top is order + count; where the unknown does not occur nothing is.
-fn lead_row(
-    table: &[[u8; LIMIT]; LIMIT],
-    n: usize,
-    e: Equation,
-    counts: &[u8; LIMIT],
-    tops: &[u8; LIMIT],
-) -> [u8; LIMIT]
-    requires { Small n table.now counts.now × (1 ≤ e.0) × (e.0 ≤ n) }
-    ensures { result ≡ tab limit (λ u. pick (ltb u n) (bit (leading_at table.now counts.now tops.now (e.0 - 1) u)) 0) }
+fn lead_row(table: &Rows, n: usize, e: Equation, counts: &Row, tops: &Row) -> Row
+    requires { Small n table.now counts.now × (equation_number e ≤ n) }
+    ensures { result ≡ tab limit (λ u. pick (ltb u n) (bit (leading_at table.now counts.now tops.now (equation_number e - 1) u)) 0) }
 {
     let at = e.place();
     let count = counts[at];
@@ -29,12 +24,7 @@ fn lead_row(
 }
 
 // The table of leading occurrences, for the crates that look at those alone.
-pub fn leading_rows(
-    table: &[[u8; LIMIT]; LIMIT],
-    n: usize,
-    counts: &[u8; LIMIT],
-    tops: &[u8; LIMIT],
-) -> [[u8; LIMIT]; LIMIT]
+pub fn leading_rows(table: &Rows, n: usize, counts: &Row, tops: &Row) -> Rows
     requires { Small n table.now counts.now }
     ensures { result ≡ leading_rows n table.now counts.now tops.now }
 {

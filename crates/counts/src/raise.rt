@@ -12,27 +12,28 @@ use crate::lead::leading_rows;
 use crate::tops::tops;
 use laws::array::tabulated;
 use pairing::search::search;
-use table::LIMIT;
-use table::number::Equation;
+use pairing::{Holders, Marks};
+use table::number::{Counted, Equation};
+use table::{LIMIT, Row, Rows};
 
 // The search of the equation at place `paired` found nothing: those before it are paired, who holds each unknown, and whom it asked in vain.
 #[derive(Clone, Copy)]
 struct Stopped {
     paired: usize,
-    holders: [Equation; LIMIT],
-    asked: [bool; LIMIT],
+    holders: Holders,
+    asked: Marks,
 }
 
 // The least counts by equation, the tops by unknown, and a full pairing over the leading occurrences, as holders.
 #[derive(Clone, Copy)]
 pub struct Choice {
-    pub counts: [u8; LIMIT],
-    pub tops: [u8; LIMIT],
-    pub holders: [Equation; LIMIT],
+    pub counts: Row,
+    pub tops: Row,
+    pub holders: Holders,
 }
 
 // One more for each that was asked.
-fn raised(n: usize, counts: &[u8; LIMIT], asked: &[bool; LIMIT]) -> [u8; LIMIT]
+fn raised(n: usize, counts: &Row, asked: &Marks) -> Row
     requires { (n ≤ limit) × ((e : ℕ) → e < n → number_at counts.now e ≤ limit * top_order) }
     ensures { result ≡ raised_by n counts.now asked.now }
 {
@@ -40,7 +41,7 @@ fn raised(n: usize, counts: &[u8; LIMIT], asked: &[bool; LIMIT]) -> [u8; LIMIT]
 }
 
 // The table of leading occurrences of the counts with their tops.
-fn leading_of(table: &[[u8; LIMIT]; LIMIT], n: usize, counts: &[u8; LIMIT]) -> [[u8; LIMIT]; LIMIT]
+fn leading_of(table: &Rows, n: usize, counts: &Row) -> Rows
     requires { Small n table.now counts.now }
     ensures { result ≡ leading_rows n table.now counts.now (tops_of n table.now counts.now) }
 {
@@ -49,12 +50,7 @@ fn leading_of(table: &[[u8; LIMIT]; LIMIT], n: usize, counts: &[u8; LIMIT]) -> [
 }
 
 // The equations from one on are paired in turn over the leading occurrences: all of them, or as far as that goes.
-fn pair_on(
-    leading: &[[u8; LIMIT]; LIMIT],
-    n: usize,
-    from: usize,
-    holders: [Equation; LIMIT],
-) -> Result<[Equation; LIMIT], Stopped>
+fn pair_on(leading: &Rows, n: usize, from: usize, holders: Holders) -> Result<Holders, Stopped>
     requires { (n ≤ limit) × (from ≤ n) × Paired n (occurs_at leading.now) from (held holders) }
     ensures { MatchResult result (λ all. Paired n (occurs_at leading.now) n (held all))
         (λ stopped. (stopped.paired < n) × Went n (occurs_at leading.now) stopped.paired stopped.holders stopped.asked) }
@@ -62,7 +58,7 @@ fn pair_on(
     let mut holders = holders;
     for paired in from..n {
         let answer = search(leading, n, Equation::at(paired), holders, [false; LIMIT]);
-        if answer.got.0 == 0 {
+        if answer.got.is_none() {
             let asked = answer.asked;
             return Err(Stopped {
                 paired,
@@ -76,12 +72,7 @@ fn pair_on(
 }
 
 // The answer, once all equations are paired: the counts with their tops.
-fn chosen(
-    table: &[[u8; LIMIT]; LIMIT],
-    n: usize,
-    counts: [u8; LIMIT],
-    holders: [Equation; LIMIT],
-) -> Choice
+fn chosen(table: &Rows, n: usize, counts: Row, holders: Holders) -> Choice
     requires { Pairable n table.now × KeptIn n table.now n counts holders }
     ensures { Chosen n table.now result.counts result.tops result.holders }
 {
@@ -95,12 +86,12 @@ fn chosen(
 
 // The answer of document 01 for a solvable model of n equations: the fit choice whose every count is no larger than in any other fit choice.
 // Each raise brings the tops' sum nearer to the counts' sum, and it never falls below that.
-pub fn least(table: &[[u8; LIMIT]; LIMIT], n: usize) -> Choice
+pub fn least(table: &Rows, n: usize) -> Choice
     requires { Pairable n table.now }
     ensures { Chosen n table.now result.counts result.tops result.holders }
 {
-    let mut counts = [0u8; LIMIT];
-    let mut holders = [Equation(0); LIMIT];
+    let mut counts = [0; LIMIT];
+    let mut holders = [None; LIMIT];
     let mut paired = 0;
     loop {
         let leading = leading_of(table, n, &counts);

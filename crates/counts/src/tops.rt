@@ -2,12 +2,13 @@
 ghost use Rattle.std.specs.Prelude.{◌≡◌, not, ◌+◌, ◌-◌, ◌*◌, ◌<◌, ◌≤◌, eqb};
 ghost use Rattle.laws.specs.Tab.{pick};
 ghost use Rattle.table.specs.Model.{limit, top_code};
+ghost use Rattle.table.specs.Number.{unknown_number};
 ghost use Rattle.counts.specs.Work.{top_order, Small, high_at, tops_of};
 
 use laws::array::tabulated;
-use table::LIMIT;
-use table::number::{Equation, Unknown};
+use table::number::{Counted, Equation, Unknown};
 use table::rows::code;
+use table::{Row, Rows};
 
 // Order + count at an occurrence, and none where the unknown does not occur: code 0 is no order at all.
 pub(crate) fn lifted(code: u8, count: u8) -> Option<u8>
@@ -18,9 +19,9 @@ pub(crate) fn lifted(code: u8, count: u8) -> Option<u8>
 }
 
 // The largest order + count over the occurrences of one unknown.
-fn top(table: &[[u8; LIMIT]; LIMIT], n: usize, u: Unknown, counts: &[u8; LIMIT]) -> u8
-    requires { Small n table.now counts.now × (1 ≤ u.0) × (u.0 ≤ n) }
-    ensures { result ≡ high_at n table.now counts.now (u.0 - 1) }
+fn top(table: &Rows, n: usize, u: Unknown, counts: &Row) -> u8
+    requires { Small n table.now counts.now × (unknown_number u ≤ n) }
+    ensures { result ≡ high_at n table.now counts.now (unknown_number u - 1) }
 {
     let mut most = 0;
     for e in 0..n {
@@ -31,7 +32,7 @@ fn top(table: &[[u8; LIMIT]; LIMIT], n: usize, u: Unknown, counts: &[u8; LIMIT])
 }
 
 // The tops of all unknowns, and 0 beyond the last.
-pub fn tops(table: &[[u8; LIMIT]; LIMIT], n: usize, counts: &[u8; LIMIT]) -> [u8; LIMIT]
+pub fn tops(table: &Rows, n: usize, counts: &Row) -> Row
     requires { Small n table.now counts.now }
     ensures { result ≡ tops_of n table.now counts.now }
 {
