@@ -105,7 +105,7 @@ module _ (n : ℕ) (t : List (List ℕ)) (counts : List ℕ) (small : n ≤ limi
   pub to_paired : (f : ℕ) (holders : List (Option Equation)) → KeptIn n t f counts holders → Paired n (rows_of n t counts) f (held holders)
   to_paired f holders p = over_paired p.upto (λ e u h k l. same e u h k ∙ l)
 
-  pub from_paired : (f f' : ℕ) (holders holders' : List (Option Equation)) → KeptIn n t f counts holders → Paired n (rows_of n t counts) f' (held holders')
+  from_paired : (f f' : ℕ) (holders holders' : List (Option Equation)) → KeptIn n t f counts holders → Paired n (rows_of n t counts) f' (held holders')
       → KeptIn n t f' counts holders'
   from_paired f f' holders holders' p q = record { upto = over_paired q (λ e u h k l. to_lead e u l); low = p.low; room = p.room; beyond = p.beyond }
 
@@ -117,23 +117,27 @@ module _ (n : ℕ) (t : List (List ℕ)) (can : Pairable n t) where
   pub orders : (e u : ℕ) → e < n → u < n → order_at t e u ≤ top_order
   orders e u h k = let c = can.bounded.codes e u h k in omega arith
 
-  -- before the first search
-  pub begin_in : KeptIn n t 0 (replicate limit 0) (replicate limit None)
-  begin_in =
-      let nobody : List (Option Equation) = replicate limit None in
-      begin n (occurs_at t) (order_at t) (number_at (replicate limit 0)) (held nobody) orders (λ e. copies_at {A = ℕ} limit 0 e)
-      (λ e u m.
-      let z : holder nobody u ≡ 0 = ap (or_zero equation_number) (copies_at {A = Option Equation} limit None u) in
-      let k = eqb-true (holder nobody u) (suc e) m in
-      omega arith)
-
   -- order + count fits a byte all the way
-  pub small_in : (f : ℕ) (counts : List ℕ) (holders : List (Option Equation)) → KeptIn n t f counts holders → Small n t counts
+  small_in : (f : ℕ) (counts : List ℕ) (holders : List (Option Equation)) → KeptIn n t f counts holders → Small n t counts
   small_in f counts holders p = record {
     bounded = can.bounded;
     few = λ e h. let k = count_few n (occurs_at t) (order_at t) can.pairs can.full f (number_at counts) (held holders) p e h in
         let w = can.bounded.equations in omega arith;
   }
+
+  -- before the first search
+  pub begin_in : Small n t (replicate limit 0) × KeptIn n t 0 (replicate limit 0) (replicate limit None)
+  begin_in = (small_in 0 (replicate limit 0) nobody kept, kept)
+    where
+      nobody : List (Option Equation)
+      nobody = replicate limit None
+
+      kept : KeptIn n t 0 (replicate limit 0) nobody
+      kept = begin n (occurs_at t) (order_at t) (number_at (replicate limit 0)) (held nobody) orders (λ e. copies_at {A = ℕ} limit 0 e)
+          (λ e u m.
+          let z : holder nobody u ≡ 0 = ap (or_zero equation_number) (copies_at {A = Option Equation} limit None u) in
+          let k = eqb-true (holder nobody u) (suc e) m in
+          omega arith)
 
   -- one raise of the list
   module _ (f : ℕ) (counts : List ℕ) (holders : List (Option Equation)) (asked : List Bool) (b : f < n) (p : KeptIn n t f counts holders)
@@ -166,17 +170,20 @@ module _ (n : ℕ) (t : List (List ℕ)) (can : Pairable n t) where
   -- a pairing that went on and stopped, and then a raise
   pub risen : (f : ℕ) (counts : List ℕ) (holders : List (Option Equation)) → KeptIn n t f counts holders
       → (f' : ℕ) (holders' : List (Option Equation)) (asked : List Bool) → f' < n → Went n (rows_of n t counts) f' holders' asked
-      → KeptIn n t f' (raised_by n counts asked) holders' × Nearer n t counts (raised_by n counts asked)
+      → Small n t (raised_by n counts asked) × KeptIn n t f' (raised_by n counts asked) holders' × Nearer n t counts (raised_by n counts asked)
   risen f counts holders p f' holders' asked b went =
-      raise_in f' counts holders' asked b (from_paired n t counts can.bounded.equations f f' holders holders' p went.upto) (went.stopped b)
+      let r = raise_in f' counts holders' asked b (from_paired n t counts can.bounded.equations f f' holders holders' p went.upto) (went.stopped b) in
+      (small_in f' (raised_by n counts asked) holders' r.0, r.0, r.1)
 
   -- after the last search
-  pub answer : (counts : List ℕ) (holders : List (Option Equation)) → KeptIn n t n counts holders → Chosen n t counts (tops_of n t counts) holders
-  answer counts holders p =
+  pub answer : (f : ℕ) (counts : List ℕ) (holders all : List (Option Equation)) → KeptIn n t f counts holders → Paired n (rows_of n t counts) n (held all)
+      → Chosen n t counts (tops_of n t counts) all
+  answer f counts holders all kept on =
+      let p = from_paired n t counts can.bounded.equations f n holders all kept on in
       let tops = tops_at n t counts can.bounded.equations in
       record {
-        least = least n (occurs_at t) (order_at t) (number_at counts) (number_at (tops_of n t counts)) (held holders) p tops;
-        paired = paired n (occurs_at t) (order_at t) (number_at counts) (number_at (tops_of n t counts)) (held holders) p tops;
+        least = least n (occurs_at t) (order_at t) (number_at counts) (number_at (tops_of n t counts)) (held all) p tops;
+        paired = paired n (occurs_at t) (order_at t) (number_at counts) (number_at (tops_of n t counts)) (held all) p tops;
         counts_beyond = p.beyond;
         tops_beyond = tops_beyond_lem n t counts;
       }
