@@ -63,14 +63,18 @@ module _ (n : ℕ) (t : List (List ℕ)) (counts tops : List ℕ) (small : n ≤
       let rest = and_right (ltb e n) (ltb u n && leading_at t counts tops e u) both in
       (ltb-true e n (and_left (ltb e n) (ltb u n && leading_at t counts tops e u) both), ltb-true u n (and_left (ltb u n) (leading_at t counts tops e u) rest)))
 
--- the tops as the code has them
-pub tops_at : (n : ℕ) (t : List (List ℕ)) (counts : List ℕ) → n ≤ limit → (u : ℕ) → u < n → number_at (tops_of n t counts) u ≡ high_at n t counts u
-tops_at n t counts small u h = get_or_tab limit (λ u. pick (ltb u n) (high_at n t counts u) 0) u 0 (omega arith) ∙ rw (lt-ltb u n h)
+-- a list that has f below n and 0 from there on
+picked_at : (n : ℕ) (f : ℕ → ℕ) → n ≤ limit → (i : ℕ) → number_at (tab limit (λ i. pick (ltb i n) (f i) 0)) i ≡ pick (ltb i n) (f i) 0
+picked_at n f small i = test (ltb i limit)
+    (λ h. get_or_tab limit (λ i. pick (ltb i n) (f i) 0) i 0 (ltb-true i limit h))
+    (λ h. get_or_past limit (λ i. pick (ltb i n) (f i) 0) i 0 (omega (arith, tests)) ∙ rw (le-ltb i n (omega (arith, tests))))
 
-pub tops_beyond_lem : (n : ℕ) (t : List (List ℕ)) (counts : List ℕ) (u : ℕ) → n ≤ u → number_at (tops_of n t counts) u ≡ 0
-tops_beyond_lem n t counts u h = test (ltb u limit)
-    (λ k. get_or_tab limit (λ u. pick (ltb u n) (high_at n t counts u) 0) u 0 (ltb-true u limit k) ∙ rw (le-ltb u n h))
-    (λ k. get_or_past limit (λ u. pick (ltb u n) (high_at n t counts u) 0) u 0 (omega (arith, tests)))
+-- the tops as the code has them
+tops_at : (n : ℕ) (t : List (List ℕ)) (counts : List ℕ) → n ≤ limit → (u : ℕ) → u < n → number_at (tops_of n t counts) u ≡ high_at n t counts u
+tops_at n t counts small u h = picked_at n (high_at n t counts) small u ∙ rw (lt-ltb u n h)
+
+tops_past : (n : ℕ) (t : List (List ℕ)) (counts : List ℕ) → n ≤ limit → (u : ℕ) → n ≤ u → number_at (tops_of n t counts) u ≡ 0
+tops_past n t counts small u h = picked_at n (high_at n t counts) small u ∙ rw (le-ltb u n h)
 
 -- the leading occurrences of the counts with their tops, in the table and by the definition
 abbrev rows_of : ℕ → List (List ℕ) → List ℕ → Rel
@@ -146,18 +150,13 @@ module _ (n : ℕ) (t : List (List ℕ)) (can : Pairable n t) where
     raised_list = fun_ext at_each
       where
         at_each : (e : ℕ) → number_at (raised_by n counts asked) e ≡ raised (number_at counts) (marked asked) e
-        at_each e = test (ltb e n)
-            (λ h. let w = can.bounded.equations in let k = ltb-true e n h in
-            get_or_tab limit (λ e. pick (ltb e n) (number_at counts e + bit (marked asked e)) 0) e 0 (omega arith) ∙ rw h)
+        at_each e = picked_at n (raised (number_at counts) (marked asked)) can.bounded.equations e ∙ test (ltb e n) (λ h. rw h)
             (λ h. let k = ltb-false e n h in
             let s = stuck n t counts can.bounded.equations f holders asked b p none in
             let out : marked asked e ≡ false = not_true (λ m. let r = reach_within p.upto.pairs b (s.reached e m) in absurd (omega arith)) in
             let z = p.beyond e k in
             let o = bit_false out in
-            let l = test (ltb e limit)
-            (λ w. get_or_tab limit (λ e. pick (ltb e n) (number_at counts e + bit (marked asked e)) 0) e 0 (ltb-true e limit w) ∙ rw h)
-            (λ w. get_or_past limit (λ e. pick (ltb e n) (number_at counts e + bit (marked asked e)) 0) e 0 (ltb-false e limit w)) in
-            omega arith)
+            rw h (omega arith))
 
     raise_in : KeptIn n t f (raised_by n counts asked) holders × Nearer n t counts (raised_by n counts asked)
     raise_in =
@@ -185,5 +184,5 @@ module _ (n : ℕ) (t : List (List ℕ)) (can : Pairable n t) where
         least = least n (occurs_at t) (order_at t) (number_at counts) (number_at (tops_of n t counts)) (held all) p tops;
         paired = paired n (occurs_at t) (order_at t) (number_at counts) (number_at (tops_of n t counts)) (held all) p tops;
         counts_beyond = p.beyond;
-        tops_beyond = tops_beyond_lem n t counts;
+        tops_beyond = tops_past n t counts can.bounded.equations;
       }

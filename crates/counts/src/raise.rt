@@ -1,7 +1,6 @@
 // The least counts of a model that has a pairing of all its equations. Each equation in turn searches over the leading occurrences; as long as it
 // finds nothing, all that were asked are differentiated once more. Some pairing of all equations is what makes the raising end.
 ghost use Rattle.std.specs.Prelude.{◌≡◌, MatchResult, ℕ, ◌+◌, ◌*◌, ◌<◌, ◌≤◌};
-ghost use Rattle.laws.specs.Count.{bit};
 ghost use Rattle.table.specs.Model.{limit, occurs_at};
 ghost use Rattle.pairing.specs.Holders.{held};
 ghost use Rattle.counts.specs.Work.{top_order, Pairable, Chosen};

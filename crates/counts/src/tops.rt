@@ -19,6 +19,8 @@ pub(crate) fn lifted(code: u8, count: u8) -> Option<u8>
 }
 
 // The largest order + count over the occurrences of one unknown.
+// Kept (point 5): `Small` says in a word what `top`, `tops`, `lead::lead_row` and `lead::leading_rows` ask of table, n and counts. The public two take the three apart
+// (docs/PROMISES.md), so a struct would be built in each of them for its one inner function, and be no plainer.
 fn top(table: &Rows, n: usize, u: Unknown, counts: &Row) -> u8
     requires { Small n table.now counts.now × (unknown_number u ≤ n) }
     ensures { result ≡ high_at n table.now counts.now (unknown_number u - 1) }
