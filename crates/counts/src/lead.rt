@@ -1,5 +1,5 @@
 // The table of leading occurrences: code 1 where order + count is the unknown's top, 0 elsewhere.
-ghost use Rattle.std.specs.Prelude.{◌≡◌, not, ◌+◌, ◌-◌, ◌<◌, ◌≤◌, ltb};
+ghost use Rattle.std.specs.Prelude.{◌≡◌, ◌-◌, ◌<◌, ◌≤◌, ltb};
 ghost use Rattle.laws.specs.Count.{bit};
 ghost use Rattle.laws.specs.Tab.{tab, pick};
 ghost use Rattle.table.specs.Model.{limit};

@@ -1,5 +1,5 @@
 // The tops that belong to counts: for each unknown the largest order + count over its occurrences.
-ghost use Rattle.std.specs.Prelude.{◌≡◌, not, ◌+◌, ◌-◌, ◌*◌, ◌<◌, ◌≤◌, eqb};
+ghost use Rattle.std.specs.Prelude.{◌≡◌, not, ◌+◌, ◌-◌, ◌*◌, ◌≤◌, eqb};
 ghost use Rattle.laws.specs.Tab.{pick};
 ghost use Rattle.table.specs.Model.{limit, top_code};
 ghost use Rattle.table.specs.Number.{unknown_number};
@@ -38,12 +38,5 @@ pub fn tops(table: &Rows, n: usize, counts: &Row) -> Row
     requires { Small n table.now counts.now }
     ensures { result ≡ tops_of n table.now counts.now }
 {
-    tabulated(
-        n,
-        0,
-        |u|
-            requires { Small n table.now counts.now × (u < n) }
-            ensures { result ≡ high_at n table.entry.now counts.entry.now u }
-        { top(table, n, Unknown::at(u), counts) },
-    )
+    tabulated(n, 0, |u| top(table, n, Unknown::at(u), counts))
 }
