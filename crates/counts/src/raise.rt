@@ -7,13 +7,14 @@ ghost use Rattle.counts.specs.Work.{top_order, Pairable, Chosen};
 ghost use Rattle.laws.specs.Tab.{number_at};
 ghost use Rattle.counts.specs.Kept.{Paired, Went, raised_by};
 
-use crate::lead::leading_rows;
+use crate::lead::leading;
 use crate::tops::tops;
 use laws::array::tabulated;
 use pairing::search::search;
 use pairing::{Holders, Marks};
 use table::number::{Counted, Equation};
-use table::{LIMIT, Row, Rows};
+use table::rows::Table;
+use table::{LIMIT, Row};
 
 // The search of the equation at place `paired` found nothing: those before it are paired, who holds each unknown, and whom it asked in vain.
 #[derive(Clone, Copy)]
@@ -40,14 +41,15 @@ fn raised(n: usize, counts: &Row, asked: &Marks) -> Row
 }
 
 // The equations from one on are paired in turn over the leading occurrences: all of them, or as far as that goes.
-fn pair_on(leading: &Rows, n: usize, from: usize, holders: Holders) -> Result<Holders, Stopped>
-    requires { (n ≤ limit) × (from ≤ n) × Paired n (occurs_at leading.now) from (held holders) }
-    ensures { MatchResult result (λ all. Paired n (occurs_at leading.now) n (held all))
-        (λ stopped. (stopped.paired < n) × Went n (occurs_at leading.now) stopped.paired stopped.holders stopped.asked) }
+fn pair_on(leading: &Table, from: usize, holders: Holders) -> Result<Holders, Stopped>
+    requires { (leading.now.equations ≡ leading.now.unknowns) × (from ≤ leading.now.equations)
+        × Paired leading.now.equations (occurs_at leading.now.rows) from (held holders) }
+    ensures { MatchResult result (λ all. Paired leading.now.equations (occurs_at leading.now.rows) leading.now.equations (held all))
+        (λ stopped. (stopped.paired < leading.now.equations) × Went leading.now.equations (occurs_at leading.now.rows) stopped.paired stopped.holders stopped.asked) }
 {
     let mut holders = holders;
-    for paired in from..n {
-        let answer = search(leading, n, Equation::at(paired), holders, [false; LIMIT]);
+    for paired in from..leading.equations {
+        let answer = search(leading, Equation::at(paired), holders, [false; LIMIT]);
         if answer.got.is_none() {
             let asked = answer.asked;
             return Err(Stopped {
@@ -63,17 +65,17 @@ fn pair_on(leading: &Rows, n: usize, from: usize, holders: Holders) -> Result<Ho
 
 // The answer of document 01 for a solvable model of n equations: the fit choice whose every count is no larger than in any other fit choice.
 // Each raise brings the tops' sum nearer to the counts' sum, and it never falls below that.
-pub fn least(table: &Rows, n: usize) -> Choice
-    requires { Pairable n table.now }
-    ensures { Chosen n table.now result.counts result.tops result.holders }
+pub fn least(table: &Table) -> Choice
+    requires { (table.now.equations ≡ table.now.unknowns) × Pairable table.now.equations table.now.rows }
+    ensures { Chosen table.now.equations table.now.rows result.counts result.tops result.holders }
 {
     let mut counts = [0; LIMIT];
     let mut holders = [None; LIMIT];
     let mut paired = 0;
     loop {
-        let tops = tops(table, n, &counts);
-        let leading = leading_rows(table, n, &counts, &tops);
-        match pair_on(&leading, n, paired, holders) {
+        let tops = tops(table, &counts);
+        let leading = leading(table, &counts, &tops);
+        match pair_on(&leading, paired, holders) {
             Ok(holders) => {
                 return Choice {
                     counts,
@@ -82,7 +84,7 @@ pub fn least(table: &Rows, n: usize) -> Choice
                 };
             }
             Err(stopped) => {
-                counts = raised(n, &counts, &stopped.asked);
+                counts = raised(table.equations, &counts, &stopped.asked);
                 paired = stopped.paired;
                 holders = stopped.holders;
             }

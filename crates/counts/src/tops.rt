@@ -6,9 +6,9 @@ ghost use Rattle.table.specs.Number.{unknown_number};
 ghost use Rattle.counts.specs.Work.{top_order, Small, high_at, tops_of};
 
 use laws::array::tabulated;
+use table::Row;
 use table::number::{Counted, Equation, Unknown};
-use table::rows::code;
-use table::{Row, Rows};
+use table::rows::Table;
 
 // Order + count at an occurrence, and none where the unknown does not occur: code 0 is no order at all.
 pub(crate) fn lifted(code: u8, count: u8) -> Option<u8>
@@ -19,24 +19,22 @@ pub(crate) fn lifted(code: u8, count: u8) -> Option<u8>
 }
 
 // The largest order + count over the occurrences of one unknown.
-// Kept (point 5): `Small` says in a word what `top`, `tops`, `lead::lead_row` and `lead::leading_rows` ask of table, n and counts. The public two take the three apart
-// (docs/PROMISES.md), so a struct would be built in each of them for its one inner function, and be no plainer.
-fn top(table: &Rows, n: usize, u: Unknown, counts: &Row) -> u8
-    requires { Small n table.now counts.now × (unknown_number u ≤ n) }
-    ensures { result ≡ high_at n table.now counts.now (unknown_number u - 1) }
+fn top(table: &Table, u: Unknown, counts: &Row) -> u8
+    requires { Small table.now.equations table.now.rows counts.now × (unknown_number u ≤ table.now.equations) }
+    ensures { result ≡ high_at table.now.equations table.now.rows counts.now (unknown_number u - 1) }
 {
     let mut most = 0;
-    for e in 0..n {
-        let here = lifted(code(table, Equation::at(e), u), counts[e]);
+    for e in 0..table.equations {
+        let here = lifted(table.code(Equation::at(e), u), counts[e]);
         most = here.unwrap_or(0).max(most);
     }
     most
 }
 
 // The tops of all unknowns, and 0 beyond the last.
-pub fn tops(table: &Rows, n: usize, counts: &Row) -> Row
-    requires { Small n table.now counts.now }
-    ensures { result ≡ tops_of n table.now counts.now }
+pub fn tops(table: &Table, counts: &Row) -> Row
+    requires { Small table.now.equations table.now.rows counts.now }
+    ensures { result ≡ tops_of table.now.equations table.now.rows counts.now }
 {
-    tabulated(n, 0, |u| top(table, n, Unknown::at(u), counts))
+    tabulated(table.equations, 0, |u| top(table, Unknown::at(u), counts))
 }

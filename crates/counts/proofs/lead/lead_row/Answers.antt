@@ -9,4 +9,4 @@ use Rattle.counts.proofs.lead.lead_row.Goals as goal
 pub returns : goal.returns
 returns c =
     let a = c.args in
-    c.tabulated.ensures (λ (u : ℕ). bit (leading_at a.table.now a.counts.now a.tops.now (equation_number a.e - 1) u)) (λ i x h p. search rules)
+    c.tabulated.ensures (λ (u : ℕ). bit (leading_at a.table.now.rows a.counts.now a.tops.now (equation_number a.e - 1) u)) (λ i x h p. search rules)

@@ -8,7 +8,7 @@ use Rattle.counts.specs.Kept.{KeptIn}
 use Rattle.counts.proofs.raise.least.Given as goal
 
 abbrev pub invariant-loop-holders : goal.invariant-loop-holders
-invariant-loop-holders l = (l.paired ≤ l.n) × Small l.n l.table l.counts × KeptIn l.n l.table l.paired l.counts l.holders
+invariant-loop-holders l = (l.paired ≤ l.table.equations) × Small l.table.equations l.table.rows l.counts × KeptIn l.table.equations l.table.rows l.paired l.counts l.holders
 
 abbrev pub decreases-loop-holders : goal.decreases-loop-holders
-decreases-loop-holders l = sum l.n (high_at l.n l.table l.counts) - sum l.n (number_at l.counts)
+decreases-loop-holders l = sum l.table.equations (high_at l.table.equations l.table.rows l.counts) - sum l.table.equations (number_at l.counts)

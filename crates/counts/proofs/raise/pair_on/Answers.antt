@@ -16,14 +16,14 @@ use Rattle.counts.proofs.raise.pair_on.Goals.{After-search-answer}
 pub search-answer-requires : goal.search-answer-requires
 search-answer-requires c =
     let place : equation_number c.at.result - 1 ≡ c.loop-paired.paired = omega arith in
-    rw place (widen (may_search c.loop-paired.invariant (omega arith) (omega arith)))
+    rw (place, ← c.requires.0) (widen (may_search c.loop-paired.invariant c.args.leading.now.few.0 (omega arith)))
 
 -- what the search of the equation at this place handed back
-answered : (c : After-search-answer) → Searched c.args.n c.args.n (occurs_at c.args.leading.now) c.loop-paired.paired (replicate limit false) c.loop-paired.holders
+answered : (c : After-search-answer) → Searched c.args.leading.now.equations c.args.leading.now.equations (occurs_at c.args.leading.now.rows) c.loop-paired.paired (replicate limit false) c.loop-paired.holders
     (or_zero unknown_number c.search-answer.result.got) c.search-answer.result.holders c.search-answer.result.asked
 answered c =
     let place : equation_number c.at.result - 1 ≡ c.loop-paired.paired = omega arith in
-    (rw place at c.search-answer.ensures) c.args.n (may_search c.loop-paired.invariant (omega arith) (omega arith))
+    (rw (place, ← c.requires.0) at c.search-answer.ensures) c.args.leading.now.equations (may_search c.loop-paired.invariant c.args.leading.now.few.0 (omega arith))
 
 pub returns-then-is_none : goal.returns-then-is_none
 returns-then-is_none c =

@@ -5,4 +5,4 @@ use Rattle.counts.specs.Kept.{Paired}
 use Rattle.counts.proofs.raise.pair_on.Given as goal
 
 abbrev pub invariant-loop-paired : goal.invariant-loop-paired
-invariant-loop-paired l = Paired l.n (occurs_at l.leading) l.paired (held l.holders)
+invariant-loop-paired l = Paired l.leading.equations (occurs_at l.leading.rows) l.paired (held l.holders)

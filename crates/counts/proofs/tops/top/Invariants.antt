@@ -6,4 +6,4 @@ use Rattle.counts.specs.Work.{high_at}
 use Rattle.counts.proofs.tops.top.Given as goal
 
 abbrev pub invariant-loop-e : goal.invariant-loop-e
-invariant-loop-e l = l.most ≡ high_at l.e l.table l.counts (unknown_number l.u - 1)
+invariant-loop-e l = l.most ≡ high_at l.e l.table.rows l.counts (unknown_number l.u - 1)

@@ -4,4 +4,4 @@ use Rattle.counts.specs.Work.{high_at}
 use Rattle.counts.proofs.tops.tops.Goals as goal
 
 pub returns : goal.returns
-returns c = c.tabulated.ensures (high_at c.args.n c.args.table.now c.args.counts.now) (λ i x h p. search rules)
+returns c = c.tabulated.ensures (high_at c.args.table.now.equations c.args.table.now.rows c.args.counts.now) (λ i x h p. search rules)

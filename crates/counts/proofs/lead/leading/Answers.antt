@@ -1,7 +1,7 @@
--- `lead::leading_rows` takes one row after another; beyond the last equation there are zeros, and the definition has zeros there.
+-- `lead::leading` takes one row after another; beyond the last equation there are zeros, and the definition has zeros there.
 use Rattle.std.proofs.Common.{rules}
 use mathlib.Core.Bool.{◌&&◌}
-use mathlib.Core.Path.{◌≡◌, ◌∙◌}
+use mathlib.Core.Path.{◌≡◌, refl, ◌∙◌}
 use mathlib.Core.List.{List}
 use Prim.Native.Nat.{ℕ}
 use lib.Dec.{ltb}
@@ -12,7 +12,7 @@ use Rattle.laws.proofs.Tab.{replicate_tab, tab_ext}
 use Rattle.laws.proofs.Tests.{test}
 use Rattle.table.specs.Model.{limit}
 use Rattle.counts.specs.Work.{leading_at, leading_rows}
-use Rattle.counts.proofs.lead.leading_rows.Goals as goal
+use Rattle.counts.proofs.lead.leading.Goals as goal
 
 abbrev row_at : ℕ → List (List ℕ) → List ℕ → List ℕ → ℕ → List ℕ
 row_at n t counts tops e = tab limit (λ u. pick (ltb u n) (bit (leading_at t counts tops e u)) 0)
@@ -26,4 +26,6 @@ rows_are n t counts tops = tab_ext limit (λ e. pick (ltb e n) (row_at n t count
 pub returns : goal.returns
 returns c =
     let a = c.args in
-    c.tabulated.ensures (row_at a.n a.table.now a.counts.now a.tops.now) (λ i x h p. search rules) ∙ rows_are a.n a.table.now a.counts.now a.tops.now
+    let t = a.table.now in
+    let row : ℕ → List ℕ = row_at t.equations t.rows a.counts.now a.tops.now in
+    (refl, refl, c.tabulated-rows.ensures row (λ i x h p. search rules) ∙ rows_are t.equations t.rows a.counts.now a.tops.now)
