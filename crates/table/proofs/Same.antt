@@ -2,7 +2,6 @@
 use mathlib.Core.Path.{◌≡◌, refl, ap, subst}
 use mathlib.Core.Bool.{true, false, not}
 use Prim.Native.Nat.{ℕ, ◌<◌, ◌≤◌}
-use Prim.{hlevel}
 use native.Mathlib.Omega.{arith}
 use lib.Dec.{eqb}
 use borrow.Author.Tests.{ne_eqb}
