@@ -5,7 +5,9 @@ ghost use Rattle.laws.specs.Tab.{tab};
 ghost use Rattle.table.specs.Model.{limit, Numbered, occurs_at, square};
 ghost use Rattle.blocks.specs.Blocks.{needs_at};
 ghost use Rattle.blocks.specs.Handed.{partner_at, Partnered};
+ghost use Rattle.pairing.specs.Handed.{partner_of};
 
+use laws::array::tabulated;
 use table::LIMIT;
 use table::number::{Equation, Unknown};
 
@@ -14,11 +16,7 @@ fn need(leading: &[[u8; LIMIT]; LIMIT], f: usize, g: usize, partner: Unknown) ->
     requires { (f < limit) × Numbered partner.0 }
     ensures { result ≡ bit (not (eqb f g) && occurs_at leading.now f (partner.0 - 1)) }
 {
-    if f == g {
-        return 0;
-    }
-    let code = table::rows::code(leading, Equation::at(f), partner);
-    if code == 0 { 0 } else { 1 }
+    u8::from(f != g && table::rows::occurs(leading, Equation::at(f), partner))
 }
 
 // What the equation at place f needs: 1 at those, 0 elsewhere.
@@ -31,13 +29,14 @@ fn need_row(
     requires { Partnered equations partners × (f < equations) }
     ensures { result ≡ tab limit (λ g. bit (needs_at equations (occurs_at leading.now) (partner_at partners) f g)) }
 {
-    let mut row = [0u8; LIMIT];
-    let mut g = 0;
-    while g < equations {
-        row[g] = need(leading, f, g, partners[g]);
-        g += 1;
-    }
-    row
+    tabulated(
+        equations,
+        0,
+        |g| -> u8
+            requires { (f < limit) × (g < limit) × Numbered (partner_of partners g) }
+            ensures { result ≡ bit (not (eqb f g) && occurs_at leading.entry.now f (partner_at partners g)) }
+        { need(leading, f, g, partners[g]) },
+    )
 }
 
 // The needs as a table: 1 where the row's equation needs the column's, 0 elsewhere.
@@ -49,11 +48,12 @@ pub fn needs(
     requires { Partnered equations partners }
     ensures { result ≡ square (λ f g. bit (needs_at equations (occurs_at leading.now) (partner_at partners) f g)) }
 {
-    let mut rows = [[0u8; LIMIT]; LIMIT];
-    let mut f = 0;
-    while f < equations {
-        rows[f] = need_row(leading, equations, partners, f);
-        f += 1;
-    }
-    rows
+    tabulated(
+        equations,
+        [0; LIMIT],
+        |f|
+            requires { Partnered equations partners × (f < equations) }
+            ensures { result ≡ tab limit (λ g. bit (needs_at equations (occurs_at leading.entry.now) (partner_at partners) f g)) }
+        { need_row(leading, equations, partners, f) },
+    )
 }

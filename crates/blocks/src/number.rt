@@ -5,6 +5,7 @@ ghost use Rattle.table.specs.Model.{limit, occurs_at};
 ghost use Rattle.blocks.specs.Handed.{Closed};
 ghost use Rattle.blocks.specs.Steps.{both, keeps_at, waits_at, Lowest, renumbered, AllNumbered};
 
+use laws::array::tabulated;
 use table::LIMIT;
 
 // For each equation the number of its block, and how many blocks there are.
@@ -19,10 +20,7 @@ fn share(reach: &[[u8; LIMIT]; LIMIT], e: usize, f: usize) -> bool
     requires { (e < limit) × (f < limit) }
     ensures { result ≡ both (occurs_at reach.now) e f }
 {
-    if reach[e][f] == 0 {
-        return false;
-    }
-    reach[f][e] != 0
+    reach[e][f] != 0 && reach[f][e] != 0
 }
 
 // The equation at place g keeps that at place e waiting: it stands in another block, which e's block needs and which does not stand yet.
@@ -30,13 +28,7 @@ fn keeps(reach: &[[u8; LIMIT]; LIMIT], number: &[u8; LIMIT], e: usize, g: usize)
     requires { (e < limit) × (g < limit) }
     ensures { result ≡ keeps_at (occurs_at reach.now) (number_at number.now) e g }
 {
-    if reach[e][g] == 0 {
-        return false;
-    }
-    if reach[g][e] != 0 {
-        return false;
-    }
-    number[g] == 0
+    reach[e][g] != 0 && reach[g][e] == 0 && number[g] == 0
 }
 
 // The block of the equation at place e does not stand yet and is ready.
@@ -44,36 +36,15 @@ fn waits(reach: &[[u8; LIMIT]; LIMIT], equations: usize, number: &[u8; LIMIT], e
     requires { (equations ≤ limit) × (e < limit) }
     ensures { result ≡ waits_at equations (occurs_at reach.now) (number_at number.now) e }
 {
-    if number[e] != 0 {
-        return false;
-    }
-    let mut g = 0;
-    while g < equations {
-        if keeps(reach, number, e, g) {
-            return false;
-        }
-        g += 1;
-    }
-    true
+    number[e] == 0 && !(0..equations).any(|g| keeps(reach, number, e, g))
 }
 
-// The place of the lowest equation whose block is ready, or the number of equations where none is.
-#[tactic(auto, using(crate::proofs::Numbering::seek_found, crate::proofs::Numbering::seek_kept, crate::proofs::Numbering::seek_past, crate::proofs::Numbering::seek_start, crate::proofs::Numbering::seek_end))]
-fn lowest(reach: &[[u8; LIMIT]; LIMIT], equations: usize, number: &[u8; LIMIT]) -> usize
+// The place of the lowest equation whose block is ready.
+fn lowest(reach: &[[u8; LIMIT]; LIMIT], equations: usize, number: &[u8; LIMIT]) -> Option<usize>
     requires { equations ≤ limit }
     ensures { Lowest equations (occurs_at reach.now) (number_at number.now) result }
 {
-    let mut best = equations;
-    let mut e = 0;
-    while e < equations {
-        if e < best {
-            if waits(reach, equations, number, e) {
-                best = e;
-            }
-        }
-        e += 1;
-    }
-    best
+    (0..equations).find(|e| waits(reach, equations, number, *e))
 }
 
 // The number that the equation at place f has when the block of that at place e gets number k.
@@ -89,28 +60,27 @@ fn renumber(reach: &[[u8; LIMIT]; LIMIT], number: &[u8; LIMIT], e: usize, k: u8)
     requires { e < limit }
     ensures { result ≡ tab limit (renumbered (occurs_at reach.now) (number_at number.now) e k) }
 {
-    let mut next = [0u8; LIMIT];
-    let mut f = 0;
-    while f < LIMIT {
-        next[f] = numbered(reach, number, e, k, f);
-        f += 1;
-    }
-    next
+    tabulated(
+        LIMIT,
+        0,
+        |f| -> u8
+            requires { (e < limit) × (f < limit) }
+            ensures { result ≡ renumbered (occurs_at reach.entry.now) (number_at number.entry.now) e k f }
+        { numbered(reach, number, e, k, f) },
+    )
 }
 
 // All blocks get their numbers, from 1.
+#[tactic(auto, using(crate::proofs::Numbering::counting_end))]
 pub fn numbers(reach: &[[u8; LIMIT]; LIMIT], equations: usize) -> BlockNumbers
     requires { (equations ≤ limit) × Closed equations (occurs_at reach.now) }
     ensures { AllNumbered equations (occurs_at reach.now) (number_at result.number) result.blocks }
 {
-    let mut number = [0u8; LIMIT];
-    let mut blocks = 0u8;
-    let mut e = lowest(reach, equations, &number);
-    while e < equations {
-        let stood = blocks;
-        blocks = stood + 1;
-        number = renumber(reach, &number, e, blocks);
-        e = lowest(reach, equations, &number);
+    let mut number = [0; LIMIT];
+    let mut blocks = 0;
+    while let Some(e) = lowest(reach, equations, &number) {
+        number = renumber(reach, &number, e, blocks + 1);
+        blocks += 1;
     }
     BlockNumbers { number, blocks }
 }

@@ -5,7 +5,7 @@ use Rattle.blocks.proofs.Numbering.{unplaced, Counting}
 use Rattle.blocks.proofs.number.numbers.Given as goal
 
 abbrev pub invariant-loop-e : goal.invariant-loop-e
-invariant-loop-e l = Counting l.equations (occurs_at l.reach) (number_at l.number) l.blocks l.e
+invariant-loop-e l = Counting l.equations (occurs_at l.reach) (number_at l.number) l.blocks
 
 abbrev pub decreases-loop-e : goal.decreases-loop-e
 decreases-loop-e l = unplaced l.equations (number_at l.number)
