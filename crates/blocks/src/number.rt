@@ -44,7 +44,7 @@ fn lowest(reach: &[[u8; LIMIT]; LIMIT], equations: usize, number: &[u8; LIMIT]) 
     requires { equations ≤ limit }
     ensures { Lowest equations (occurs_at reach.now) (number_at number.now) result }
 {
-    (0..equations).find(|e| waits(reach, equations, number, *e))
+    (0..equations).find(|&e| waits(reach, equations, number, e))
 }
 
 // The number that the equation at place f has when the block of that at place e gets number k.
