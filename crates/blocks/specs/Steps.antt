@@ -53,7 +53,7 @@ abbrev pub place_of : ℕ → (ℕ → ℕ) → ℕ → ℕ
 place_of m num e = count m (λ f. earlier_at num f e)
 
 -- the equations below e stand at their places, with their numbers, and beyond the last equation there is nothing
-pub record Standing (m : ℕ) (num : ℕ → ℕ) (order : List Equation) (block : List ℕ) (e : ℕ) : Type 0 where
+pub record Standing (m : ℕ) (num : ℕ → ℕ) (order : List (Option Equation)) (block : List ℕ) (e : ℕ) : Type 0 where
   pub equation : (f : ℕ) → f < e → equation_at order (place_of m num f) ≡ f + 1
   pub number : (f : ℕ) → f < e → number_at block (place_of m num f) ≡ num f
   pub no_equation : (i : ℕ) → m ≤ i → equation_at order i ≡ 0

@@ -6,21 +6,21 @@ ghost use Rattle.blocks.specs.Handed.{Closed};
 ghost use Rattle.blocks.specs.Steps.{both, keeps_at, waits_at, Lowest, renumbered, AllNumbered};
 
 use laws::array::tabulated;
-use table::LIMIT;
+use table::{LIMIT, Row, Rows};
 
 // For each equation the number of its block, and how many blocks there are.
 #[derive(Clone, Copy)]
 pub struct BlockNumbers {
-    pub number: [u8; LIMIT],
+    pub number: Row,
     pub blocks: u8,
 }
 
 // The blocks as far as they stand: each equation's block number, or 0, beside what each equation reaches.
 #[derive(Clone, Copy)]
 struct StandingBlocks<'a> {
-    reach: &'a [[u8; LIMIT]; LIMIT],
+    reach: &'a Rows,
     equations: usize,
-    number: [u8; LIMIT],
+    number: Row,
 }
 
 impl StandingBlocks<'_> {
@@ -84,7 +84,7 @@ impl StandingBlocks<'_> {
 
 // All blocks get their numbers, from 1.
 #[tactic(auto, using(crate::proofs::Numbering::counting_end))]
-pub fn numbers(reach: &[[u8; LIMIT]; LIMIT], equations: usize) -> BlockNumbers
+pub fn numbers(reach: &Rows, equations: usize) -> BlockNumbers
     requires { (equations ≤ limit) × Closed equations (occurs_at reach.now) }
     ensures { AllNumbered equations (occurs_at reach.now) (number_at result.number) result.blocks }
 {

@@ -7,11 +7,11 @@ ghost use Rattle.blocks.specs.Handed.{Bits, ReachTable, Within};
 ghost use Rattle.blocks.specs.Steps.{at_once, either, through_code};
 
 use laws::array::tabulated;
-use table::LIMIT;
+use table::{LIMIT, Row, Rows};
 
 // Each equation reaches itself, and at once what it needs.
 #[tactic(auto, using(laws::proofs::Tab::fill_start, crate::proofs::Tables::own_next, crate::proofs::Tables::own_end))]
-fn at_once(needs: &[[u8; LIMIT]; LIMIT], equations: usize) -> [[u8; LIMIT]; LIMIT]
+fn at_once(needs: &Rows, equations: usize) -> Rows
     requires { (equations ≤ limit) × Bits needs.now }
     ensures { result ≡ square (λ e g. bit (at_once equations (occurs_at needs.now) e g)) }
 {
@@ -30,14 +30,14 @@ fn either_of(code: u8, other: u8) -> u8
 }
 
 // What one of two equations reaches.
-fn joined(row: [u8; LIMIT], other: [u8; LIMIT]) -> [u8; LIMIT]
+fn joined(row: Row, other: Row) -> Row
     ensures { result ≡ tab limit (λ g. either (get_or row g 0) (get_or other g 0)) }
 {
     tabulated(LIMIT, 0, |g| either_of(row[g], other[g]))
 }
 
 // What an equation reaches besides if the way may lead through the equation at place k, whose row is the second.
-fn row_through(row: [u8; LIMIT], other: [u8; LIMIT], k: usize) -> [u8; LIMIT]
+fn row_through(row: Row, other: Row, k: usize) -> Row
     requires { k < limit }
     ensures { result ≡ tab limit (λ g. pick (eqb (get_or row k 0) 0) (get_or row g 0) (either (get_or row g 0) (get_or other g 0))) }
 {
@@ -45,7 +45,7 @@ fn row_through(row: [u8; LIMIT], other: [u8; LIMIT], k: usize) -> [u8; LIMIT]
 }
 
 // The same for every equation.
-fn through(reach: &[[u8; LIMIT]; LIMIT], k: usize) -> [[u8; LIMIT]; LIMIT]
+fn through(reach: &Rows, k: usize) -> Rows
     requires { k < limit }
     ensures { result ≡ square (through_code reach.now k) }
 {
@@ -60,7 +60,7 @@ fn through(reach: &[[u8; LIMIT]; LIMIT], k: usize) -> [[u8; LIMIT]; LIMIT]
 }
 
 // What each equation reaches, as a table: 1 where the row's equation reaches the column's, 0 elsewhere.
-pub fn reach(needs: &[[u8; LIMIT]; LIMIT], equations: usize) -> [[u8; LIMIT]; LIMIT]
+pub fn reach(needs: &Rows, equations: usize) -> Rows
     requires { (equations ≤ limit) × Bits needs.now × Within equations (occurs_at needs.now) }
     ensures { ReachTable equations (occurs_at needs.now) result }
 {
