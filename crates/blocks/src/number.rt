@@ -9,6 +9,8 @@ use laws::array::tabulated;
 use table::{LIMIT, Row, Rows};
 
 // For each equation the number of its block, and how many blocks there are.
+// Kept (point 1): a block that does not stand yet has number 0. As `Option<NonZeroU8>` the numbers would be turned back one by one for
+// `Placing.block`, the strip of bytes with 0 for none of which `PlacingIs` and `one_block` speak.
 #[derive(Clone, Copy)]
 pub struct BlockNumbers {
     pub number: Row,
