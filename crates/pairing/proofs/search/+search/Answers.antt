@@ -1,6 +1,6 @@
 -- `search::search`: the first pass finds a free unknown; the second asks the holders in turn. What falls is the number of those not asked.
 -- The steps are the laws of proofs/Searching: takes, asks, moves, turn_start, turn_next, ends.
-use mathlib.Core.Path.{◌≡◌, refl, sym, ap, ◌∙◌}
+use mathlib.Core.Path.{◌≡◌, refl, sym, ap, subst, ◌∙◌}
 use mathlib.Core.Bool.{true, false}
 use Prim.Native.Nat.{ℕ, suc, ◌-◌, ◌<◌}
 use native.Mathlib.Numerals.{add-one}
@@ -16,6 +16,7 @@ use Rattle.table.specs.Number.{equation_number, unknown_number, or_zero}
 use Rattle.table.specs.declared.number.Equation.{Equation}
 use Rattle.table.proofs.Same.{some_unknown, none_unknown}
 use Rattle.pairing.specs.Holders.{held}
+use Rattle.pairing.specs.Looking.{AllHeld}
 use Rattle.pairing.proofs.Give.{Given}
 use Rattle.pairing.proofs.Searching.{Wanted, wanted, giving, restored, takes, asks, moves, all_held, turn_next, ends, fewer, turn_asked, has_found, has_nothing}
 use Rattle.pairing.proofs.search.+search.Goals as goal
@@ -97,7 +98,7 @@ pub next_held-wanted-requires-in-Some-wanted : goal.next_held-wanted-requires-in
 next_held-wanted-requires-in-Some-wanted t c =
     let p = (goal.at.next_held-wanted-requires-in-Some-wanted t c).After-unwrap-holder in
     let s = c.requires in
-    (omega arith, s.unknowns, rw (back t p) (all_held s (ap (or_zero unknown_number) c.in_default.is) c.free_unknown-free.ensures))
+    (omega arith, s.unknowns, subst (AllHeld c.args.unknowns (occurs_at c.args.table.now) (equation_number c.args.asker - 1)) (sym (back t p)) (all_held s (ap (or_zero unknown_number) c.in_default.is) c.free_unknown-free.ensures))
 
 pub loop-wanted-smaller : goal.loop-wanted-smaller
 loop-wanted-smaller t c =
