@@ -5,3 +5,4 @@ pub mod need;
 mod number;
 pub mod place;
 pub mod reach;
+pub mod relation;

@@ -6,20 +6,18 @@ ghost use Rattle.table.specs.Model.{limit, code_at, occurs_at, square};
 ghost use Rattle.blocks.specs.Handed.{Bits, ReachTable, Within};
 ghost use Rattle.blocks.specs.Steps.{at_once, either, through_code};
 
+use crate::relation::Relation;
 use laws::array::tabulated;
 use table::{LIMIT, Row, Rows};
 
-// Kept (point 5): `equations ≤ limit` and a place below the limit stay clauses. `needs`, `reach`, `place` and `solve_order` (docs/PROMISES.md) take plain
-// numbers, so that a type for either would be made anew in each of them and taken apart at each index, as in `rows[e.index()][e.index()]`.
-
 // Each equation reaches itself, and at once what it needs.
 #[tactic(auto, using(laws::proofs::Tab::fill_start, crate::proofs::Tables::own_next, crate::proofs::Tables::own_end))]
-fn at_once(needs: &Rows, equations: usize) -> Rows
-    requires { (equations ≤ limit) × Bits needs.now }
-    ensures { result ≡ square (λ e g. bit (at_once equations (occurs_at needs.now) e g)) }
+fn at_once(needs: &Relation) -> Rows
+    requires { Bits needs.now.rows }
+    ensures { result ≡ square (λ e g. bit (at_once needs.now.equations (occurs_at needs.now.rows) e g)) }
 {
-    let mut rows = *needs;
-    for e in 0..equations {
+    let mut rows = needs.rows;
+    for e in 0..needs.equations {
         rows[e][e] = 1;
     }
     rows
@@ -62,14 +60,17 @@ fn through(reach: &Rows, k: usize) -> Rows
     )
 }
 
-// What each equation reaches, as a table: 1 where the row's equation reaches the column's, 0 elsewhere.
-pub fn reach(needs: &Rows, equations: usize) -> Rows
-    requires { (equations ≤ limit) × Bits needs.now × Within equations (occurs_at needs.now) }
-    ensures { ReachTable equations (occurs_at needs.now) result }
+// What each equation reaches.
+pub fn reach(needs: &Relation) -> Relation
+    requires { Bits needs.now.rows × Within needs.now.equations (occurs_at needs.now.rows) }
+    ensures { (result.equations ≡ needs.now.equations) × ReachTable needs.now.equations (occurs_at needs.now.rows) result.rows }
 {
-    let mut rows = at_once(needs, equations);
-    for k in 0..equations {
+    let mut rows = at_once(needs);
+    for k in 0..needs.equations {
         rows = through(&rows, k);
     }
-    rows
+    Relation {
+        equations: needs.equations,
+        rows,
+    }
 }

@@ -13,5 +13,5 @@ use Rattle.blocks.proofs.need.need_row.Goals as goal
 pub returns : goal.returns
 returns c =
     let a = c.args in
-    let f : ℕ → ℕ = λ g. bit (not (eqb a.f g) && occurs_at a.leading.now a.f (partner_at a.partners g)) in
-    c.tabulated.ensures f (λ i x h p. search rules) ∙ need_row_tab a.equations (occurs_at a.leading.now) (partner_at a.partners) a.f c.requires.1
+    let f : ℕ → ℕ = λ g. bit (not (eqb a.f g) && occurs_at a.leading.now.rows a.f (partner_at a.partners g)) in
+    c.tabulated.ensures f (λ i x h p. search rules) ∙ need_row_tab a.leading.now.equations (occurs_at a.leading.now.rows) (partner_at a.partners) a.f c.requires.1

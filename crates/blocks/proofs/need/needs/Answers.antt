@@ -1,6 +1,6 @@
 -- `need::needs` takes one row after another; equations beyond the last need nothing.
 use Rattle.std.proofs.Common.{rules}
-use mathlib.Core.Path.{◌∙◌}
+use mathlib.Core.Path.{refl, ◌∙◌}
 use mathlib.Core.List.{List}
 use Prim.Native.Nat.{ℕ}
 use Rattle.laws.specs.Tab.{tab}
@@ -12,5 +12,5 @@ use Rattle.blocks.proofs.need.needs.Goals as goal
 pub returns : goal.returns
 returns c =
     let a = c.args in
-    let row : ℕ → List ℕ = λ f. tab limit (need_bit a.equations (occurs_at a.leading.now) (partner_at a.partners) f) in
-    c.tabulated.ensures row (λ i x h p. search rules) ∙ needs_tab a.equations (occurs_at a.leading.now) (partner_at a.partners)
+    let row : ℕ → List ℕ = λ f. tab limit (need_bit a.leading.now.equations (occurs_at a.leading.now.rows) (partner_at a.partners) f) in
+    (refl, c.tabulated-rows.ensures row (λ i x h p. search rules) ∙ needs_tab a.leading.now.equations (occurs_at a.leading.now.rows) (partner_at a.partners))

@@ -6,17 +6,17 @@ use Rattle.blocks.proofs.Numbering.{counting_start, counting_falls, counting_ste
 use Rattle.blocks.proofs.number.numbers.Goals as goal
 
 pub loop-e-init : goal.loop-e-init
-loop-e-init c = (refl, refl, counting_start (λ f. copies_at limit 0 f))
+loop-e-init c = (refl, counting_start (λ f. copies_at limit 0 f))
 
 pub loop-e-smaller : goal.loop-e-smaller
 loop-e-smaller c =
     let i = c.loop-e.invariant in
-    let l = rw (c.in-Some.is, i.0, i.1) at c.lowest.ensures in
-    counting_falls c.requires.1 c.requires.0 i.2 l (rw i.0 at c.renumber-standing.ensures.2)
+    let l = rw (c.in-Some.is, i.0) at c.lowest.ensures in
+    counting_falls c.requires c.args.reach.now.few i.1 l (rw i.0 at c.renumber-standing.ensures.1)
 
 pub loop-e-preserved : goal.loop-e-preserved
 loop-e-preserved c =
     let i = c.loop-e.invariant in
     let r = c.renumber-standing.ensures in
-    let l = rw (c.in-Some.is, i.0, i.1) at c.lowest.ensures in
-    (r.0 ∙ i.0, r.1 ∙ i.1, counting_step c.requires.1 c.requires.0 i.2 l (rw i.0 at r.2))
+    let l = rw (c.in-Some.is, i.0) at c.lowest.ensures in
+    (r.0 ∙ i.0, counting_step c.requires c.args.reach.now.few i.1 l (rw i.0 at r.1))

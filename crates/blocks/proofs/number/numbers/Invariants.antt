@@ -7,8 +7,8 @@ use Rattle.blocks.proofs.number.numbers.Given as goal
 
 abbrev pub invariant-loop-e : goal.invariant-loop-e
 invariant-loop-e l =
-    (l.standing.reach.now ≡ l.reach) × (l.standing.equations ≡ l.equations)
-    × Counting l.equations (occurs_at l.reach) (number_at l.standing.number) l.blocks
+    (l.standing.reach.now ≡ l.reach)
+    × Counting l.reach.equations (occurs_at l.reach.rows) (number_at l.standing.number) l.blocks
 
 abbrev pub decreases-loop-e : goal.decreases-loop-e
-decreases-loop-e l = unplaced l.equations (number_at l.standing.number)
+decreases-loop-e l = unplaced l.reach.equations (number_at l.standing.number)

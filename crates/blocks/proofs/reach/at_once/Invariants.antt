@@ -6,4 +6,4 @@ use Rattle.blocks.proofs.Tables.{own_row, old_row}
 use Rattle.blocks.proofs.reach.at_once.Given as goal
 
 abbrev pub invariant-loop-e : goal.invariant-loop-e
-invariant-loop-e l = l.rows ≡ tab limit (upto l.e (own_row l.equations (occurs_at l.needs)) (old_row l.equations (occurs_at l.needs)))
+invariant-loop-e l = l.rows ≡ tab limit (upto l.e (own_row l.needs.equations (occurs_at l.needs.rows)) (old_row l.needs.equations (occurs_at l.needs.rows)))

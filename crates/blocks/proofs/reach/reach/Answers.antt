@@ -1,5 +1,5 @@
 -- `reach::reach` lets one equation after another through; when all are let through, every way is found.
-use mathlib.Core.Path.{◌≡◌}
+use mathlib.Core.Path.{◌≡◌, refl}
 use native.Mathlib.Omega.{arith}
 use Rattle.table.specs.Model.{occurs_at}
 use Rattle.blocks.proofs.ReachTables.{through_next, through_end}
@@ -7,10 +7,10 @@ use Rattle.blocks.proofs.reach.reach.Goals as goal
 
 pub loop-k-preserved : goal.loop-k-preserved
 loop-k-preserved c =
-    let few = c.requires.0 in
-    through_next c.args.equations (occurs_at c.args.needs.now) c.loop-k.k _ _ c.loop-k.invariant c.through-rows.ensures (omega arith)
+    let few = c.args.needs.now.few in
+    through_next c.args.needs.now.equations (occurs_at c.args.needs.now.rows) c.loop-k.k _ _ c.loop-k.invariant c.through-rows.ensures (omega arith)
 
 pub returns : goal.returns
 returns c =
-    let all : c.loop-k.k ≡ c.args.equations = omega arith in
-    through_end c.requires.2 c.requires.0 (rw all at c.loop-k.invariant)
+    let all : c.loop-k.k ≡ c.args.needs.now.equations = omega arith in
+    (refl, through_end c.requires.1 c.args.needs.now.few (rw all at c.loop-k.invariant))

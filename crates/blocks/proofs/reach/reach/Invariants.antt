@@ -6,4 +6,4 @@ use Rattle.blocks.specs.Steps.{ways}
 use Rattle.blocks.proofs.reach.reach.Given as goal
 
 abbrev pub invariant-loop-k : goal.invariant-loop-k
-invariant-loop-k l = l.rows ≡ square (λ e g. bit (ways l.equations (occurs_at l.needs) l.k e g))
+invariant-loop-k l = l.rows ≡ square (λ e g. bit (ways l.needs.equations (occurs_at l.needs.rows) l.k e g))

@@ -11,5 +11,5 @@ use Rattle.blocks.proofs.number.StandingBlocks.renumber.Goals as goal
 pub returns : goal.returns
 returns c =
     let s = c.args.self.now in
-    let next : ℕ → ℕ = renumbered (occurs_at s.reach.now) (number_at s.number) c.args.e c.args.k in
-    (refl, refl, c.tabulated-number.ensures next (λ i x h p. search rules) ∙ whole_tab limit next 0)
+    let next : ℕ → ℕ = renumbered (occurs_at s.reach.now.rows) (number_at s.number) c.args.e c.args.k in
+    (refl, c.tabulated-number.ensures next (λ i x h p. search rules) ∙ whole_tab limit next 0)
