@@ -30,9 +30,10 @@ pub struct Solution {
 }
 
 // What is to be said of a model of n equations that all have a pair.
+#[tactic(auto, using(counts::proofs::Chosen::chosen_small, counts::proofs::Chosen::chosen_full, counts::proofs::Chosen::freedom_asks, blocks::proofs::FirstPartners::first_partnered))]
 fn solve(rows: &[[u8; LIMIT]; LIMIT], n: usize) -> Solution
     requires { Pairable n rows.now }
-    ensures { SolutionIs n rows.now result.counts result.tops result.partners result.order result.block result.index result.freedom result.blocks }
+    ensures { SolutionIs n rows.now result }
 {
     let choice = least(rows, n);
     let counts = choice.counts;
@@ -56,46 +57,35 @@ fn solve(rows: &[[u8; LIMIT]; LIMIT], n: usize) -> Solution
 }
 
 // Each of the five strips, through its own stretch.
-fn write(
-    answer: &mut [u8],
-    n: usize,
-    counts: [u8; LIMIT],
-    tops: [u8; LIMIT],
-    partners: [Unknown; LIMIT],
-    order: [Equation; LIMIT],
-    block: [u8; LIMIT],
-)
+fn write(answer: &mut [u8], n: usize, solution: &Solution)
     requires { (answer_bytes ≤ length answer.old) × (n ≤ limit) }
-    ensures { answer.new ≡ strips (take n counts) (take n tops) (take n (map unknown_number partners)) (take n (map equation_number order)) (take n block)
+    ensures { answer.new ≡ strips (take n solution.now.counts) (take n solution.now.tops)
+        (take n (map unknown_number solution.now.partners)) (take n (map equation_number solution.now.order)) (take n solution.now.block)
         ++ drop answer_bytes answer.old }
 {
-    numbers(&mut answer[0..LIMIT], n, counts);
-    numbers(&mut answer[LIMIT..2 * LIMIT], n, tops);
+    numbers(&mut answer[0..LIMIT], n, solution.counts);
+    numbers(&mut answer[LIMIT..2 * LIMIT], n, solution.tops);
     numbers(
         &mut answer[2 * LIMIT..3 * LIMIT],
         n,
-        Unknown::numbers(partners),
+        Unknown::numbers(solution.partners),
     );
     numbers(
         &mut answer[3 * LIMIT..4 * LIMIT],
         n,
-        Equation::numbers(order),
+        Equation::numbers(solution.order),
     );
-    numbers(&mut answer[4 * LIMIT..5 * LIMIT], n, block);
+    numbers(&mut answer[4 * LIMIT..5 * LIMIT], n, solution.block);
 }
 
 // The number and the strips of a solvable model.
+#[tactic(auto, using(crate::proofs::Solution::is_solved))]
 pub fn solvable(rows: &[[u8; LIMIT]; LIMIT], n: usize, answer: &mut [u8]) -> u64
     requires { Pairable n rows.now × (answer_bytes ≤ length answer.old) }
     ensures { Solved n (occurs_at rows.now) (order_at rows.now) n answer.old result answer.new }
 {
     let solution = solve(rows, n);
-    let counts = solution.counts;
-    let tops = solution.tops;
-    let partners = solution.partners;
-    let order = solution.order;
-    let block = solution.block;
-    write(&mut *answer, n, counts, tops, partners, order, block);
+    write(&mut *answer, n, &solution);
     pack(
         0,
         0,

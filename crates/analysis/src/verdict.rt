@@ -13,11 +13,7 @@ use table::LIMIT;
 fn all_paired(equations: usize, unknowns: usize, rank: u8) -> bool
     ensures { result ≡ (eqb equations unknowns && eqb rank equations) }
 {
-    if equations == unknowns {
-        (rank as usize) == equations
-    } else {
-        false
-    }
+    equations == unknowns && usize::from(rank) == equations
 }
 
 // The verdict on a table that was judged. Counts are looked for only where all are paired: with a surplus equation the raising would never end.
