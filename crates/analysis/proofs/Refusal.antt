@@ -24,17 +24,17 @@ pub accepted : (E U : ℕ) (t : List ℕ) (room : ℕ) → refusal E U t room �
 accepted E U t room z = test (in_limits E U)
     (λ a. test (eqb (length t) (E * U))
     (λ b. test (ltb room answer_bytes)
-    (λ c. let y : 3 ≡ 0 = rw (a, b, c) at z in absurd (omega arith))
+    (λ c. absurd (omega (arith, rw (a, b, c) at z)))
     (λ c. test (ltb (first_above t) (length t))
-    (λ d. let y : 4 ≡ 0 = rw (a, b, c, d) at z in absurd (omega arith))
+    (λ d. absurd (omega (arith, rw (a, b, c, d) at z)))
     (λ d. record {
       inside = a;
       bytes = eqb-true (length t) (E * U) b;
       roomy = ltb-false room answer_bytes c;
       codes = let m = above_most t in omega (arith, tests);
     })))
-    (λ b. let y : 2 ≡ 0 = rw (a, b) at z in absurd (omega arith)))
-    (λ a. let y : 1 ≡ 0 = rw a at z in absurd (omega arith))
+    (λ b. absurd (omega (arith, rw (a, b) at z))))
+    (λ a. absurd (omega (arith, rw a at z)))
 
 -- what the rows of a table are that was not refused
 pub well_sized_lem : {E U : ℕ} {t : List ℕ} {room : ℕ} → Accepted E U t room → well_sized E U t ≡ true
