@@ -5,7 +5,8 @@ ghost use Rattle.table.specs.Model.{limit};
 ghost use Rattle.pairing.specs.Members.{members};
 ghost use Rattle.analysis.specs.Outcome.{strip};
 
-use table::LIMIT;
+use pairing::Marks;
+use table::{LIMIT, Row};
 
 // What an unused place of a strip holds.
 pub const UNUSED: u8 = 255;
@@ -24,7 +25,7 @@ pub fn unused(stretch: &mut [u8])
 
 // Numbers by place: counts, tops, partners, equations in solving order, block numbers.
 #[tactic(auto, using(crate::proofs::Strips::strip_front))]
-pub fn numbers(stretch: &mut [u8], n: usize, numbers: [u8; LIMIT])
+pub fn numbers(stretch: &mut [u8], n: usize, numbers: Row)
     requires { (length stretch.old ≡ limit) × (n ≤ limit) }
     ensures { stretch.new ≡ strip (take n numbers) }
 {
@@ -33,7 +34,7 @@ pub fn numbers(stretch: &mut [u8], n: usize, numbers: [u8; LIMIT])
 }
 
 // The numbers of those that are marked, ascending: surplus equations, unfixed unknowns.
-pub fn listed(stretch: &mut [u8], n: usize, marks: [bool; LIMIT])
+pub fn listed(stretch: &mut [u8], n: usize, marks: Marks)
     requires { (length stretch.old ≡ limit) × (n ≤ limit) }
     ensures { stretch.new ≡ strip (map suc (members n (marked marks))) }
 {
