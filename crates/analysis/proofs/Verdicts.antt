@@ -1,4 +1,4 @@
--- From who may be left over to the verdict: all equations and unknowns are paired exactly if E = U = rank. And from the verdict to the reply.
+-- From who may be left over to the verdict: all equations and unknowns are paired exactly if E = U = rank.
 use mathlib.Core.Path.{◌≡◌, sym, subst}
 use mathlib.Core.Bool.{Bool, true, false, ◌&&◌}
 use mathlib.Core.List.{List, [], ◌++◌, map}
@@ -19,10 +19,10 @@ use Rattle.counts.specs.Work.{Pairable}
 use Rattle.analysis.specs.Outcome.{packed, strips, answer_bytes, Solved, Verdict}
 
 -- the test of the code, taken apart
-paired_square : (E U rank : ℕ) → (eqb E U && eqb rank E) ≡ true → E ≡ U
+pub paired_square : (E U rank : ℕ) → (eqb E U && eqb rank E) ≡ true → E ≡ U
 paired_square E U rank t = eqb-true E U (and_left (eqb E U) (eqb rank E) t)
 
-paired_all : (E U rank : ℕ) → (eqb E U && eqb rank E) ≡ true → rank ≡ E
+pub paired_all : (E U rank : ℕ) → (eqb E U && eqb rank E) ≡ true → rank ≡ E
 paired_all E U rank t = eqb-true rank E (and_right (eqb E U) (eqb rank E) t)
 
 -- what the counts ask for: with all paired a largest pairing takes in every equation
