@@ -6,8 +6,8 @@ use native.Mathlib.Numerals.{add-one}
 use Prim.Native.Nat.{ℕ, zero, suc, ◌+◌, ◌-◌, ◌<◌, ◌≤◌}
 use native.Mathlib.Omega.{arith}
 use lib.Dec.{eqb, ltb}
-use lib.ListN.{length, get_or, take, drop, set, replicate, length-set, length-append, length-map, length-drop, get_or-append, get_or-eq_default}
-use lib.Seq.{get_or-set_same, get_or-set_other, get_or-append_seam, length-take-le}
+use lib.ListN.{length, get_or, drop, set, replicate, length-set, length-append, length-map, length-drop, get_or-append, get_or-eq_default}
+use lib.Seq.{get_or-set_same, get_or-set_other, get_or-append_seam}
 use Rattle.std.proofs.lemmas.List.{get_or-drop, map-id}
 use Rattle.std.proofs.lemmas.Simd.{map-map}
 use Rattle.std.proofs.lemmas.List.FromFn.{length-enumerate_from, get_or-enumerate_from, filter_of_map_range_with_len_more}
@@ -53,11 +53,6 @@ strip_over l h = is_tab (l ++ drop (length l) (strip [])) 0 limit (λ i. get_or 
         ∙ get_or-drop (length l) (strip []) (k - length l) 0
         ∙ get_or_tab limit (λ i. unused) (length l + (k - length l)) 0 (omega (arith, tests))
         ∙ sym (get_or-eq_default l unused (omega (arith, tests))))
-
-pub strip_front : (n : ℕ) (l : List ℕ) → length l ≡ limit → n ≤ limit → take n l ++ drop n (strip []) ≡ strip (take n l)
-strip_front n l e h =
-    let m : length (take n l) ≡ n = length-take-le n l (omega arith) in
-    ap (λ k. take n l ++ drop k (strip [])) (sym m) ∙ strip_over (take n l) (omega arith)
 
 -- the members below n are what a filter leaves of the numbers below n
 filter_more : (n : ℕ) (p : ℕ → Bool) → filter p (range_with_len 0 (suc n)) ≡ filter p (range_with_len 0 n) ++ cond (p n) (n ∷ []) []

@@ -1,12 +1,12 @@
 // The writers of the strips. Each is lent its own stretch of the answer buffer and fills it wholly: what it has, and then unused places.
-ghost use Rattle.std.specs.Prelude.{◌≡◌, [], map, suc, ◌≤◌, length, take};
+ghost use Rattle.std.specs.Prelude.{◌≡◌, [], map, suc, ◌≤◌, length};
 ghost use Rattle.laws.specs.Marks.{marked};
 ghost use Rattle.table.specs.Model.{limit};
 ghost use Rattle.pairing.specs.Members.{members};
 ghost use Rattle.analysis.specs.Outcome.{strip};
 
 use pairing::Marks;
-use table::{LIMIT, Row};
+use table::LIMIT;
 
 // What an unused place of a strip holds.
 pub const UNUSED: u8 = 255;
@@ -24,13 +24,13 @@ pub fn unused(stretch: &mut [u8])
 }
 
 // Numbers by place: counts, tops, partners, equations in solving order, block numbers.
-#[tactic(auto, using(crate::proofs::Strips::strip_front))]
-pub fn numbers(stretch: &mut [u8], n: usize, numbers: Row)
-    requires { (length stretch.old ≡ limit) × (n ≤ limit) }
-    ensures { stretch.new ≡ strip (take n numbers) }
+#[tactic(auto, using(crate::proofs::Strips::strip_over))]
+pub fn numbers(stretch: &mut [u8], numbers: &[u8])
+    requires { (length stretch.old ≡ limit) × (length numbers.now ≤ limit) }
+    ensures { stretch.new ≡ strip numbers.now }
 {
     unused(stretch);
-    stretch[..n].copy_from_slice(&numbers[..n]);
+    stretch[..numbers.len()].copy_from_slice(numbers);
 }
 
 // The numbers of those that are marked, ascending: surplus equations, unfixed unknowns.
