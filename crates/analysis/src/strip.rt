@@ -5,7 +5,6 @@ ghost use Rattle.table.specs.Model.{limit};
 ghost use Rattle.pairing.specs.Members.{members};
 ghost use Rattle.analysis.specs.Outcome.{strip};
 
-use pairing::Marks;
 use table::LIMIT;
 
 // What an unused place of a strip holds.
@@ -34,12 +33,12 @@ pub fn numbers(stretch: &mut [u8], numbers: &[u8])
 }
 
 // The numbers of those that are marked, ascending: surplus equations, unfixed unknowns.
-pub fn listed(stretch: &mut [u8], n: usize, marks: Marks)
-    requires { (length stretch.old ≡ limit) × (n ≤ limit) }
-    ensures { stretch.new ≡ strip (map suc (members n (marked marks))) }
+pub fn listed(stretch: &mut [u8], marks: &[bool])
+    requires { (length stretch.old ≡ limit) × (length marks.now ≤ limit) }
+    ensures { stretch.new ≡ strip (map suc (members (length marks.now) (marked marks.now))) }
 {
     unused(stretch);
-    for (at, i) in (0..n).filter(|&i| marks[i]).enumerate() {
+    for (at, i) in (0..marks.len()).filter(|&i| marks[i]).enumerate() {
         stretch[at] = (i + 1) as u8;
     }
 }
