@@ -17,6 +17,7 @@ use table::number::{Equation, Unknown};
 use table::{LIMIT, Row, Rows};
 
 // Counts by equation, tops by unknown, partners by equation, the equations in solving order with the block number of each place, and three figures.
+// Kept (point 6): parallel arrays; each is one of the answer's five strips, by equation, by unknown or by place (document 01), and memory is fixed.
 #[derive(Clone, Copy)]
 pub struct Solution {
     pub counts: Row,

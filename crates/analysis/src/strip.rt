@@ -1,4 +1,6 @@
 // The writers of the strips. Each is lent its own stretch of the answer buffer and fills it wholly: what it has, and then unused places.
+// Kept (point 5): that a stretch has 32 bytes stands in three contracts; it is a part of the caller's buffer (document 01), and `[u8; LIMIT]` would ask more
+// of those who call `unused`, `numbers` and `listed` (docs/PROMISES.md).
 ghost use Rattle.std.specs.Prelude.{◌≡◌, [], map, suc, ◌≤◌, length};
 ghost use Rattle.laws.specs.Marks.{marked};
 ghost use Rattle.table.specs.Model.{limit};
