@@ -1,5 +1,7 @@
 // The writers of the strips. Each is lent its own stretch of the answer buffer and fills it wholly: what it has, and then unused places.
-ghost use Rattle.std.specs.Prelude.{◌≡◌, [], map, suc, ◌≤◌, length, take};
+// Kept (point 5): that a stretch has 32 bytes stands in three contracts; it is a part of the caller's buffer (document 01), and `[u8; LIMIT]` would ask more
+// of those who call `unused`, `numbers` and `listed` (docs/PROMISES.md).
+ghost use Rattle.std.specs.Prelude.{◌≡◌, [], map, suc, ◌≤◌, length};
 ghost use Rattle.laws.specs.Marks.{marked};
 ghost use Rattle.table.specs.Model.{limit};
 ghost use Rattle.pairing.specs.Members.{members};
@@ -14,43 +16,31 @@ pub const UNUSED: u8 = 255;
 pub const ANSWER: usize = 5 * LIMIT;
 
 // A strip with nothing in it.
+#[tactic(auto, using(crate::proofs::Strips::strip_none))]
 pub fn unused(stretch: &mut [u8])
     requires { length stretch.old ≡ limit }
     ensures { stretch.new ≡ strip [] }
 {
-    let mut i = 0;
-    while i < stretch.len() {
-        stretch[i] = UNUSED;
-        i += 1;
-    }
+    stretch.fill(UNUSED);
 }
 
 // Numbers by place: counts, tops, partners, equations in solving order, block numbers.
-pub fn numbers(stretch: &mut [u8], n: usize, numbers: [u8; LIMIT])
-    requires { (length stretch.old ≡ limit) × (n ≤ limit) }
-    ensures { stretch.new ≡ strip (take n numbers) }
+#[tactic(auto, using(crate::proofs::Strips::strip_over))]
+pub fn numbers(stretch: &mut [u8], numbers: &[u8])
+    requires { (length stretch.old ≡ limit) × (length numbers.now ≤ limit) }
+    ensures { stretch.new ≡ strip numbers.now }
 {
-    unused(&mut *stretch);
-    let mut i = 0;
-    while i < n {
-        stretch[i] = numbers[i];
-        i += 1;
-    }
+    unused(stretch);
+    stretch[..numbers.len()].copy_from_slice(numbers);
 }
 
 // The numbers of those that are marked, ascending: surplus equations, unfixed unknowns.
-pub fn listed(stretch: &mut [u8], n: usize, marks: [bool; LIMIT])
-    requires { (length stretch.old ≡ limit) × (n ≤ limit) }
-    ensures { stretch.new ≡ strip (map suc (members n (marked marks))) }
+pub fn listed(stretch: &mut [u8], marks: &[bool])
+    requires { (length stretch.old ≡ limit) × (length marks.now ≤ limit) }
+    ensures { stretch.new ≡ strip (map suc (members (length marks.now) (marked marks.now))) }
 {
-    unused(&mut *stretch);
-    let mut at = 0;
-    let mut i = 0;
-    while i < n {
-        if marks[i] {
-            stretch[at] = (i + 1) as u8;
-            at += 1;
-        }
-        i += 1;
+    unused(stretch);
+    for (at, i) in (0..marks.len()).filter(|&i| marks[i]).enumerate() {
+        stretch[at] = (i + 1) as u8;
     }
 }
