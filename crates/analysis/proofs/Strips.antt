@@ -79,10 +79,8 @@ front_marked n l (suc m) h =
     (λ t. members_yes m (marked (take n l)) (e ∙ t) ∙ ap (λ k. k ++ m ∷ []) r ∙ sym (members_yes m (marked l) t))
     (λ f. members_not m (marked (take n l)) (e ∙ f) ∙ r ∙ sym (members_not m (marked l) f))
 
-pub front_listed : (n : ℕ) (l : List Bool) {s : List ℕ} → n ≤ length l → s ≡ strip (map suc (members (length (take n l)) (marked (take n l))))
-    → s ≡ strip (map suc (members n (marked l)))
-front_listed n l h e = e ∙ ap (λ k. strip (map suc (members k (marked (take n l))))) (length-take-le n l h)
-    ∙ ap (λ k. strip (map suc k)) (front_marked n l n (omega arith))
+pub front_members : (n : ℕ) (l : List Bool) → n ≤ length l → members (length (take n l)) (marked (take n l)) ≡ members n (marked l)
+front_members n l h = ap (λ k. members k (marked (take n l))) (length-take-le n l h) ∙ front_marked n l n (omega arith)
 
 -- the members below n, each with its place in their list
 abbrev pub numbered : ℕ → (ℕ → Bool) → List (ℕ × ℕ)

@@ -13,7 +13,7 @@ ghost use Rattle.analysis.specs.Outcome.{Reply};
 use crate::judge::first_refusal;
 use crate::number::pack;
 use crate::verdict::verdict;
-use table::rows::filled;
+use table::rows::Table;
 
 // The entry in the C calling form: each slice is a pointer and a length. Hands back code, place, rank, index, freedom and blocks as one number,
 // and writes the strips. It asks nothing of its caller and always returns.
@@ -30,6 +30,5 @@ pub extern "C" fn mudorder_analyse(
     if let Err(refused) = first_refusal(equations, unknowns, table, answer.len()) {
         return pack(refused.number(), refused.place(), 0, 0, 0, 0);
     }
-    let rows = filled(equations, unknowns, table);
-    verdict(&rows, equations, unknowns, answer)
+    verdict(&Table::filled(equations, unknowns, table), answer)
 }

@@ -6,16 +6,16 @@ ghost use Rattle.pairing.specs.Members.{members};
 ghost use Rattle.analysis.specs.Outcome.{strips, answer_bytes};
 
 use crate::strip::{listed, unused};
-use pairing::Marks;
 use table::LIMIT;
 
 // The surplus equations, the unfixed unknowns, and three strips with nothing in them.
-pub fn write(answer: &mut [u8], equations: usize, unknowns: usize, surplus: Marks, unfixed: Marks)
-    requires { (answer_bytes ≤ length answer.old) × (equations ≤ limit) × (unknowns ≤ limit) }
-    ensures { answer.new ≡ strips (map suc (members equations (marked surplus))) (map suc (members unknowns (marked unfixed))) [] [] [] ++ drop answer_bytes answer.old }
+pub fn write(answer: &mut [u8], surplus: &[bool], unfixed: &[bool])
+    requires { (answer_bytes ≤ length answer.old) × (length surplus.now ≤ limit) × (length unfixed.now ≤ limit) }
+    ensures { answer.new ≡ strips (map suc (members (length surplus.now) (marked surplus.now))) (map suc (members (length unfixed.now) (marked unfixed.now))) [] [] []
+        ++ drop answer_bytes answer.old }
 {
-    listed(&mut answer[0..LIMIT], &surplus[..equations]);
-    listed(&mut answer[LIMIT..2 * LIMIT], &unfixed[..unknowns]);
+    listed(&mut answer[0..LIMIT], surplus);
+    listed(&mut answer[LIMIT..2 * LIMIT], unfixed);
     unused(&mut answer[2 * LIMIT..3 * LIMIT]);
     unused(&mut answer[3 * LIMIT..4 * LIMIT]);
     unused(&mut answer[4 * LIMIT..5 * LIMIT]);

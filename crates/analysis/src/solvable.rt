@@ -10,11 +10,12 @@ use crate::number::pack;
 use crate::strip::numbers;
 use blocks::place::{Placing, solve_order};
 use counts::figures::{freedom, index};
-use counts::lead::leading_rows;
+use counts::lead::leading;
 use counts::raise::{Choice, least};
 use pairing::first::first;
 use table::number::{Equation, Unknown};
-use table::{LIMIT, Row, Rows};
+use table::rows::Table;
+use table::{LIMIT, Row};
 
 // Counts by equation, tops by unknown, partners by equation, the equations in solving order with the block number of each place, and three figures.
 // Kept (point 6): parallel arrays; each is one of the answer's five strips, by equation, by unknown or by place (document 01), and memory is fixed.
@@ -32,30 +33,30 @@ pub struct Solution {
 
 // What is to be said of a model of n equations that all have a pair.
 #[tactic(auto, using(counts::proofs::Chosen::chosen_small, counts::proofs::Chosen::chosen_full, counts::proofs::Chosen::freedom_asks, blocks::proofs::FirstPartners::first_partnered))]
-fn solve(rows: &Rows, n: usize) -> Solution
-    requires { Pairable n rows.now }
-    ensures { SolutionIs n rows.now result }
+fn solve(table: &Table) -> Solution
+    requires { (table.now.equations ≡ table.now.unknowns) × Pairable table.now.equations table.now.rows }
+    ensures { SolutionIs table.now.equations table.now.rows result }
 {
     let Choice {
         counts,
         tops,
         holders,
-    } = least(rows, n);
-    let leading = leading_rows(rows, n, &counts, &tops);
-    let partners = first(&leading, n, holders);
+    } = least(table);
+    let leading = leading(table, &counts, &tops);
+    let partners = first(&leading, holders);
     let Placing {
         order,
         block,
         blocks,
-    } = solve_order(&leading, n, partners);
+    } = solve_order(&leading, partners);
     Solution {
         counts,
         tops,
         partners,
         order,
         block,
-        index: index(n, &counts),
-        freedom: freedom(n, &counts, &tops),
+        index: index(table.equations, &counts),
+        freedom: freedom(table.equations, &counts, &tops),
         blocks,
     }
 }
@@ -77,16 +78,16 @@ fn write(answer: &mut [u8], n: usize, solution: &Solution)
 }
 
 // The number and the strips of a solvable model.
-pub fn solvable(rows: &Rows, n: usize, answer: &mut [u8]) -> u64
-    requires { Pairable n rows.now × (answer_bytes ≤ length answer.old) }
-    ensures { Solved n (occurs_at rows.now) (order_at rows.now) n answer.old result answer.new }
+pub fn solvable(table: &Table, answer: &mut [u8]) -> u64
+    requires { (table.now.equations ≡ table.now.unknowns) × Pairable table.now.equations table.now.rows × (answer_bytes ≤ length answer.old) }
+    ensures { Solved table.now.equations (occurs_at table.now.rows) (order_at table.now.rows) table.now.equations answer.old result answer.new }
 {
-    let solution = solve(rows, n);
-    write(answer, n, &solution);
+    let solution = solve(table);
+    write(answer, table.equations, &solution);
     pack(
         0,
         0,
-        n as u8,
+        table.equations as u8,
         solution.index,
         solution.freedom,
         solution.blocks,
