@@ -1,17 +1,16 @@
 -- Laws of what one line says, step by step as a line is read.
-use mathlib.Core.Path.{◌≡◌, refl, sym, ◌∙◌}
-use mathlib.Core.Bool.{Bool, true, false, ◌&&◌}
+use mathlib.Core.Path.{◌≡◌, refl, ◌∙◌}
+use mathlib.Core.Bool.{Bool, true, false}
 use mathlib.Core.List.{List, [], ◌∷◌}
 use Prim.Native.Nat.{ℕ, zero, suc, ◌+◌, ◌-◌, ◌*◌, ◌≤◌, ◌<◌}
 use native.Mathlib.Omega.{arith}
-use native.Mathlib.Numerals.{add-one}
 use lib.Dec.{ltb, eqb}
-use lib.ListN.{length, get_or, drop, drop_of_length-le, length-drop}
-use lib.Seq.{drop-cons}
-use borrow.Author.Tests.{eq-eqb, ne_eqb, le-leb, lt-leb, ltb-true, ltb-false}
+use lib.ListN.{length, drop, length-drop}
+use borrow.Author.Tests.{eq-eqb, ne_eqb, le-leb, ltb-true, ltb-false}
 use Rattle.laws.proofs.Tests.{test, clash}
 use Rattle.card.specs.Text.{comma, occurs_key, end_key, begins, is_digit, digits_of, number_of}
-use Rattle.card.specs.Entry.{name_byte, every, good_name, whole_of, value_of, with_comma, comma_of, triple_of, ended, entry_of}
+use Rattle.std.specs.List.{list_all}
+use Rattle.card.specs.Entry.{name_byte, good_name, whole_of, value_of, with_comma, comma_of, triple_of, ended, entry_of}
 use Rattle.card.specs.declared.text.Number.{Number}
 use Rattle.card.specs.declared.text.Number.TheVariants.{Missing, Is}
 use Rattle.card.specs.declared.entry.Value.TheVariants.{Other, Says}
@@ -20,32 +19,8 @@ use Rattle.card.proofs.TextLaws.{begins_short}
 
 -- ---- the name
 
-pub every_at : (p : ℕ → Bool) (s : List ℕ) (i : ℕ) → i < length s → every p (drop i s) ≡ (p (get_or s i 0) && every p (drop (i + 1) s))
-every_at p s i h = rw (add-one, drop-cons s i 0)
-
-pub name_short : (s : List ℕ) → length s < 1 → false ≡ good_name s
-name_short s h = rw (lt-leb 1 (length s) h)
-
-pub name_long : (s : List ℕ) → 24 < length s → false ≡ good_name s
-name_long s h = rw (le-leb 1 (length s) (omega arith), lt-leb (length s) 24 h)
-
--- what the loop over a name keeps: the rest decides
-pub record Spelt (s : List ℕ) (i : ℕ) : Type 0 where
-  pub within : i ≤ length s
-  pub same : good_name s ≡ every name_byte (drop i s)
-
-pub spelt_start : (s : List ℕ) → 1 ≤ length s → length s ≤ 24 → Spelt s 0
-spelt_start s h k = record { within = omega arith; same = rw (le-leb 1 (length s) h, le-leb (length s) 24 k) }
-
-module _ {s : List ℕ} {i : ℕ} (k : Spelt s i) where
-  pub spelt_step : i < length s → name_byte (get_or s i 0) ≡ true → Spelt s (i + 1)
-  spelt_step h e = record { within = omega arith; same = k.same ∙ every_at name_byte s i h ∙ rw e }
-
-  pub spelt_stop : i < length s → name_byte (get_or s i 0) ≡ false → false ≡ good_name s
-  spelt_stop h e = sym (k.same ∙ every_at name_byte s i h ∙ rw e)
-
-  pub spelt_end : length s ≤ i → true ≡ good_name s
-  spelt_end h = sym (k.same ∙ rw (drop_of_length-le s h))
+pub spelt : (s : List ℕ) {b : Bool} → 1 ≤ length s → length s ≤ 24 → b ≡ list_all name_byte s → b ≡ good_name s
+spelt s h k e = e ∙ rw (le-leb 1 (length s) h, le-leb (length s) 24 k)
 
 -- ---- a key in front
 

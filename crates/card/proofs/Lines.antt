@@ -10,7 +10,8 @@ use lib.Seq.{drop-append_seam, drop-append-add, drop-drop}
 use borrow.Author.Tests.{eq-eqb, ne_eqb, eqb-true}
 use Rattle.laws.proofs.Tests.{test, clash, and_left, and_right, and_both}
 use Rattle.card.specs.Text.{LF, comma, occurs_key, end_key, begins, is_digit, number_of, dec, Lines, none, cut, line, grown, lines_of}
-use Rattle.card.specs.Entry.{name_byte, every, alone, whole_of, value_of, with_comma, comma_of, order_of, unknown_of, equation_of, triple_of, ended, entry_of}
+use Rattle.std.specs.List.{list_all}
+use Rattle.card.specs.Entry.{name_byte, alone, whole_of, value_of, with_comma, comma_of, order_of, unknown_of, equation_of, triple_of, ended, entry_of}
 use Rattle.card.specs.declared.text.Number.{Number}
 use Rattle.card.specs.declared.text.Number.TheVariants.{Missing, Is}
 use Rattle.card.specs.declared.entry.Value.{Value}
@@ -187,12 +188,12 @@ entry_end_is s n q =
 abbrev clear : ℕ → Bool
 clear b = not (eqb b LF)
 
-pub lines_of_lem : (l s : List ℕ) → every clear l ≡ true → lines_of (l ++ LF ∷ s) ≡ line l (lines_of s)
+pub lines_of_lem : (l s : List ℕ) → list_all clear l ≡ true → lines_of (l ++ LF ∷ s) ≡ line l (lines_of s)
 lines_of_lem [] s h = refl
 lines_of_lem (b ∷ l) s h =
-    let c = and_left (clear b) (every clear l) h in
+    let c = and_left (clear b) (list_all clear l) h in
     let n : eqb b LF ≡ false = test (eqb b LF) (λ t. clash {b = clear b} c (rw t)) (λ f. f) in
-    rw (n, lines_of_lem l s (and_right (clear b) (every clear l) h))
+    rw (n, lines_of_lem l s (and_right (clear b) (list_all clear l) h))
 
 unfoldable pub text_of : Lines → List ℕ
 text_of none = []
@@ -212,13 +213,13 @@ text_lines (b ∷ s) =
     go (cut l) = refl
     go (line l rest) = refl
 
-pub every_append : (p : ℕ → Bool) (s t : List ℕ) → every p s ≡ true → every p t ≡ true → every p (s ++ t) ≡ true
+pub every_append : (p : ℕ → Bool) (s t : List ℕ) → list_all p s ≡ true → list_all p t ≡ true → list_all p (s ++ t) ≡ true
 every_append p [] t a b = b
-every_append p (x ∷ s) t a b = and_both (and_left (p x) (every p s) a) (every_append p s t (and_right (p x) (every p s) a) b)
+every_append p (x ∷ s) t a b = and_both (and_left (p x) (list_all p s) a) (every_append p s t (and_right (p x) (list_all p s) a) b)
 
-every_imp : (p q : ℕ → Bool) → ((x : ℕ) → p x ≡ true → q x ≡ true) → (s : List ℕ) → every p s ≡ true → every q s ≡ true
+every_imp : (p q : ℕ → Bool) → ((x : ℕ) → p x ≡ true → q x ≡ true) → (s : List ℕ) → list_all p s ≡ true → list_all q s ≡ true
 every_imp p q f [] h = refl
-every_imp p q f (x ∷ s) h = and_both (f x (and_left (p x) (every p s) h)) (every_imp p q f s (and_right (p x) (every p s) h))
+every_imp p q f (x ∷ s) h = and_both (f x (and_left (p x) (list_all p s) h)) (every_imp p q f s (and_right (p x) (list_all p s) h))
 
 -- LF is no digit and no byte of a name
 digit_clear : (b : ℕ) → is_digit b ≡ true → clear b ≡ true
@@ -227,16 +228,16 @@ digit_clear b h = rw (ne_eqb b LF (λ e. clash {b = is_digit LF} (rw e at h) ref
 name_clear : (b : ℕ) → name_byte b ≡ true → clear b ≡ true
 name_clear b h = rw (ne_eqb b LF (λ e. clash {b = name_byte LF} (rw e at h) refl))
 
-dec_clear : (n : ℕ) → n ≤ 9999 → every clear (dec n) ≡ true
+dec_clear : (n : ℕ) → n ≤ 9999 → list_all clear (dec n) ≡ true
 dec_clear n h = every_imp is_digit clear digit_clear (dec n) (dec_digits n h)
 
 -- the lines that are written have no LF inside
-pub rig_clear : (key name : List ℕ) → every clear key ≡ true → every name_byte name ≡ true → every clear (key ++ name) ≡ true
+pub rig_clear : (key name : List ℕ) → list_all clear key ≡ true → list_all name_byte name ≡ true → list_all clear (key ++ name) ≡ true
 rig_clear key name a h = every_append clear key name a (every_imp name_byte clear name_clear name h)
 
-pub value_clear : (key : List ℕ) (n : ℕ) → every clear key ≡ true → n ≤ 9999 → every clear (key ++ dec n) ≡ true
+pub value_clear : (key : List ℕ) (n : ℕ) → list_all clear key ≡ true → n ≤ 9999 → list_all clear (key ++ dec n) ≡ true
 value_clear key n a h = every_append clear key (dec n) a (dec_clear n h)
 
-pub occurs_clear : (e u k : ℕ) → e ≤ 9999 → u ≤ 9999 → k ≤ 9999 → every clear (occurs_key ++ dec e ++ comma ∷ dec u ++ comma ∷ dec k) ≡ true
+pub occurs_clear : (e u k : ℕ) → e ≤ 9999 → u ≤ 9999 → k ≤ 9999 → list_all clear (occurs_key ++ dec e ++ comma ∷ dec u ++ comma ∷ dec k) ≡ true
 occurs_clear e u k a b c = every_append clear (dec e ++ comma ∷ dec u) (comma ∷ dec k)
     (every_append clear (dec e) (comma ∷ dec u) (dec_clear e a) (dec_clear u b)) (dec_clear k c)

@@ -10,7 +10,7 @@ use lib.ListN.{length, drop}
 use borrow.Author.Tests.{eqb-true, eqb-false, lt-ltb, le-ltb, le-leb, ltb-true, ltb-false}
 use Rattle.laws.proofs.Tests.{test, clash, and_left, and_right, and_both}
 use Rattle.card.specs.Text.{is_digit, digits_of, number_of, digit_of, dec}
-use Rattle.card.specs.Entry.{every}
+use Rattle.std.specs.List.{list_all}
 use Rattle.card.specs.declared.text.Number.TheVariants.{Missing, Is}
 use Rattle.card.proofs.TextLaws.{digit_low, digit_high}
 use Rattle.card.proofs.EntryLaws.{missing_is}
@@ -28,7 +28,7 @@ value_of v (d ∷ ds) = value_of (v * 10 + (d - 48)) ds
 -- the digits of a number: all are, and only 0 itself begins with a zero
 record Spelling (b : ℕ) (ds : List ℕ) : Type 0 where
   first : is_digit b ≡ true
-  digits : every is_digit ds ≡ true
+  digits : list_all is_digit ds ≡ true
   short : length ds ≤ 3
   lead : b ≡ 48 → length ds ≡ 0
 
@@ -43,14 +43,14 @@ digits_stop zero v took rest h = refl
 digits_stop (suc more) v took [] h = refl
 digits_stop (suc more) v took (b ∷ rest) h = test (is_digit b) (λ t. clash {b = not (is_digit b)} h (rw t)) (λ f. rw f)
 
-digits_read : (ds : List ℕ) (more v took : ℕ) (rest : List ℕ) → every is_digit ds ≡ true → length ds ≤ more → stops rest ≡ true
+digits_read : (ds : List ℕ) (more v took : ℕ) (rest : List ℕ) → list_all is_digit ds ≡ true → length ds ≤ more → stops rest ≡ true
     → digits_of more v took (ds ++ rest) ≡ Is (value_of v ds) (took + length ds)
 digits_read [] more v took rest e l h = let z : took + 0 ≡ took = omega arith in rw z (digits_stop more v took rest h)
 digits_read (d ∷ ds) zero v took rest e l h = absurd (omega arith)
 digits_read (d ∷ ds) (suc more) v took rest e l h =
     let z : took + suc (length ds) ≡ took + 1 + length ds = omega arith in
-    rw (and_left (is_digit d) (every is_digit ds) e, z) (digits_read ds more (v * 10 + (d - 48)) (took + 1) rest
-    (and_right (is_digit d) (every is_digit ds) e) (omega arith) h)
+    rw (and_left (is_digit d) (list_all is_digit ds) e, z) (digits_read ds more (v * 10 + (d - 48)) (took + 1) rest
+    (and_right (is_digit d) (list_all is_digit ds) e) (omega arith) h)
 
 -- a spelling in front of anything that is no digit is read whole
 spelt_read : (b : ℕ) (ds rest : List ℕ) → Spelling b ds → stops rest ≡ true → number_of (b ∷ ds ++ rest) ≡ Is (value_of (b - 48) ds) (1 + length ds)
@@ -70,7 +70,7 @@ record Read (s : List ℕ) (v t : ℕ) : Type 0 where
 
 record More (more v took : ℕ) (s : List ℕ) (w t : ℕ) : Type 0 where
   ds : List ℕ
-  digits : every is_digit ds ≡ true
+  digits : list_all is_digit ds ≡ true
   short : length ds ≤ more
   value : w ≡ value_of v ds
   count : t ≡ took + length ds
@@ -170,8 +170,8 @@ spells b (c ∷ []) k =
     record { is = rw (le-ltb v 10 (omega arith), lt-ltb v 100 (omega arith)) (two (omega arith) (omega arith)); small = omega arith }
 spells b (c ∷ d ∷ []) k =
     let l = between b k.first in
-    let m = between c (and_left (is_digit c) (every is_digit (d ∷ [])) k.digits) in
-    let n = between d (and_left (is_digit d) true (and_right (is_digit c) (every is_digit (d ∷ [])) k.digits)) in
+    let m = between c (and_left (is_digit c) (list_all is_digit (d ∷ [])) k.digits) in
+    let n = between d (and_left (is_digit d) true (and_right (is_digit c) (list_all is_digit (d ∷ [])) k.digits)) in
     let h = first_high k (omega arith) in
     let v = ((b - 48) * 10 + (c - 48)) * 10 + (d - 48) in
     record {
@@ -181,10 +181,10 @@ spells b (c ∷ d ∷ []) k =
     }
 spells b (c ∷ d ∷ e ∷ []) k =
     let l = between b k.first in
-    let m = between c (and_left (is_digit c) (every is_digit (d ∷ e ∷ [])) k.digits) in
-    let r = and_right (is_digit c) (every is_digit (d ∷ e ∷ [])) k.digits in
-    let n = between d (and_left (is_digit d) (every is_digit (e ∷ [])) r) in
-    let o = between e (and_left (is_digit e) true (and_right (is_digit d) (every is_digit (e ∷ [])) r)) in
+    let m = between c (and_left (is_digit c) (list_all is_digit (d ∷ e ∷ [])) k.digits) in
+    let r = and_right (is_digit c) (list_all is_digit (d ∷ e ∷ [])) k.digits in
+    let n = between d (and_left (is_digit d) (list_all is_digit (e ∷ [])) r) in
+    let o = between e (and_left (is_digit e) true (and_right (is_digit d) (list_all is_digit (e ∷ [])) r)) in
     let h = first_high k (omega arith) in
     let v = (((b - 48) * 10 + (c - 48)) * 10 + (d - 48)) * 10 + (e - 48) in
     record {
@@ -310,6 +310,6 @@ number_is s n t e =
       took = r.took ∙ (let z : 1 + length r.ds ≡ suc (length r.ds) = omega arith in z) ∙ ap length (sym d);
     }
 
--- every byte of it is a digit
-pub dec_digits : (n : ℕ) → n ≤ 9999 → every is_digit (dec n) ≡ true
+-- list_all byte of it is a digit
+pub dec_digits : (n : ℕ) → n ≤ 9999 → list_all is_digit (dec n) ≡ true
 dec_digits n h = let d = digits n h in rw d.is (and_both d.spelling.first d.spelling.digits)

@@ -14,7 +14,8 @@ use Rattle.laws.proofs.Tests.{test, and_left, and_right}
 use Rattle.table.specs.Model.{limit, counted_in, Numbered}
 use Rattle.table.proofs.Model.{counted}
 use Rattle.card.specs.Text.{LF, comma, rig_key, equations_key, unknowns_key, occurs_key, end_key, begins, dec, Lines, none, cut, line, lines_of}
-use Rattle.card.specs.Entry.{name_byte, every, good_name, value_of, entry_of}
+use Rattle.std.specs.List.{list_all}
+use Rattle.card.specs.Entry.{name_byte, good_name, value_of, entry_of}
 use Rattle.card.specs.Card.{refused, behind, rig_of, count_said, count_of, in_range, not_after, turn_said, cell, finished, from_turn, collected, list_of, headed}
 use Rattle.card.specs.Card.{from_count, from_rig, judged}
 use Rattle.card.specs.declared.entry.Value.{Value}
@@ -193,7 +194,7 @@ rig_end (line l rest) e q =
     let f : Named (length l) ≡ Named e = rw (b, g) at q in
     let z : length l ≡ e = cc in
     let n = drop (length rig_key) l in
-    let both = and_left (leb 1 (length n) && leb (length n) 24) (every name_byte n) g in
+    let both = and_left (leb 1 (length n) && leb (length n) 24) (list_all name_byte n) g in
     let s = leb-true (length n) 24 (and_right (leb 1 (length n)) (leb (length n) 24) both) in
     let k : length l ≡ length rig_key + length n = ap length (begins_is rig_key l b) ∙ length-append rig_key n in
     (omega arith, omega (arith, line_size l rest)))

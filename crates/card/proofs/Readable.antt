@@ -12,7 +12,8 @@ use borrow.Author.Tests.{eq-eqb, ne_eqb, eqb-true, le-leb, leb-false}
 use Rattle.laws.proofs.Tests.{test, either, and_both}
 use Rattle.table.specs.Model.{top_code, counted_in}
 use Rattle.card.specs.Text.{LF, comma, rig_key, equations_key, unknowns_key, occurs_key, end_key, begins, dec, Lines, none, cut, line, lines_of}
-use Rattle.card.specs.Entry.{every, good_name, value_of, entry_of}
+use Rattle.std.specs.List.{list_all}
+use Rattle.card.specs.Entry.{good_name, value_of, entry_of}
 use Rattle.card.specs.Card.{Judged, refused, good, behind, rig_of, count_said, count_of, in_range, not_after, turn_said, cell, finished, from_turn}
 use Rattle.card.specs.Card.{collected, list_of, from_count, headed, from_rig, judged, line_of, occurs_lines, occurrences, card_of}
 use Rattle.card.specs.Promise.{WriteGood, IsCard}
@@ -55,7 +56,7 @@ reached_after E U c e' u' e u k h r p =
 
 -- ---- zeros in a table
 
-zeros_codes : (m : ℕ) → every small (replicate m 0) ≡ true
+zeros_codes : (m : ℕ) → list_all small (replicate m 0) ≡ true
 zeros_codes zero = refl
 zeros_codes (suc m) = zeros_codes m
 
@@ -96,7 +97,7 @@ module _ (name : List ℕ) (E U : ℕ) where
     r : List ℕ
     table : T ≡ p ++ r
     sized : length r ≡ m
-    codes : every small r ≡ true
+    codes : list_all small r ≡ true
     text : text_of ls ≡ rest_of name E U c r (n + occurrences r)
 
   Claim : Lines → Type 0

@@ -1,5 +1,5 @@
 -- What the promises of `read`, `write` and `name_of` come to: one outcome each, which inputs are good, what succeeds and what a refusal leaves alone,
--- both round trips, and the bounds of every number. Each goes by the cases of `judged`, or by the writer's tests one after another.
+-- both round trips, and the bounds of list_all number. Each goes by the cases of `judged`, or by the writer's tests one after another.
 use mathlib.Core.Path.{◌≡◌, refl, ap, sym, ◌∙◌}
 use mathlib.Core.Bool.{◌&&◌}
 use mathlib.Core.List.{List, ◌++◌}
@@ -14,7 +14,8 @@ use borrow.Author.Tests.{ne_eqb, eqb-true, le-ltb, le-leb, ltb-false, leb-true}
 use Rattle.laws.proofs.Tests.{test, and_left, and_right}
 use Rattle.table.specs.Model.{limit, in_limits, first_above}
 use Rattle.table.proofs.Model.{limits, above_most}
-use Rattle.card.specs.Entry.{name_byte, every, good_name}
+use Rattle.std.specs.List.{list_all}
+use Rattle.card.specs.Entry.{name_byte, good_name}
 use Rattle.card.specs.Card.{Judged, refused, good, judged, read_of, table_of, name_of, name_at, card_of, wrote_none, card_after}
 use Rattle.card.specs.Promise.{WriteGood, IsCard, ReadDone, NamePart, WriteDone}
 use Rattle.card.specs.declared.Reading.{Reading}
@@ -122,7 +123,7 @@ read_refused {s} {before} {after} {r} k n = go (judged s) refl
         (rw h at c, ap (λ x. x.equations) d, ap (λ x. x.unknowns) d))
         (λ h. let d : r ≡ record { number = 0; place = 0; equations = E; unknowns = U } = rw h at a in absurd (n (ap (λ x. x.number) d)))
 
--- the bounds by which every answer fits what is printed and packed; a place is at most the input's length, too
+-- the bounds by which list_all answer fits what is printed and packed; a place is at most the input's length, too
 pub record ReadFits (s : List ℕ) (r : Reading) : Type 0 where
   pub number : r.number ≤ 17
   pub place : r.place ≤ longest
@@ -164,7 +165,7 @@ write_succeeds {name} {t} {before} {after} {E} {U} {r} g h k =
 pub write_refused : {name t before after : List ℕ} {E U : ℕ} {r : Writing} → WriteDone name E U t before r after → (r.number ≡ 0 → ⊥) → after ≡ before
 write_refused {name} {t} {before} {after} {E} {U} {r} k n = k.bytes ∙ rw (ne_eqb r.number 0 n)
 
--- the bounds by which every answer of the writer fits what is printed and packed
+-- the bounds by which list_all answer of the writer fits what is printed and packed
 pub record WriteFits (r : Writing) : Type 0 where
   pub number : r.number ≤ 18
   pub place : r.place ≤ longest
@@ -199,7 +200,7 @@ pub name_length : (s name : List ℕ) (E U : ℕ) (t : List ℕ) → judged s �
 name_length s name E U t p =
     let l = leb 1 (length name) in
     let h = leb (length name) 24 in
-    let b = and_left (l && h) (every name_byte name) (good_card s name E U t p).fine.named in
+    let b = and_left (l && h) (list_all name_byte name) (good_card s name E U t p).fine.named in
     (leb-true 1 (length name) (and_left l h b), leb-true (length name) 24 (and_right l h b))
 
 pub name_fits : (s : List ℕ) → length (name_of (judged s)) ≤ 24

@@ -1,20 +1,23 @@
 -- Laws of the written card: its lines laid one behind another, and how long each is.
 use mathlib.Core.Path.{◌≡◌, refl, ap, sym, ◌∙◌}
-use mathlib.Core.Bool.{true, false, ◌&&◌}
+use mathlib.Core.Bool.{true, false, not, ◌&&◌}
 use mathlib.Core.List.{List, [], ◌∷◌, ◌++◌, append_assoc, append-nil}
 use Prim.Native.Nat.{ℕ, suc, ◌+◌, ◌-◌, ◌*◌, ◌/◌, ◌%◌, ◌≤◌, ◌<◌}
 use native.Mathlib.Nat.{mul-le-mul_right}
 use native.Mathlib.Omega.{arith}
 use native.Mathlib.Numerals.{add-one}
 use lib.Dec.{eqb, leb}
-use lib.ListN.{length, get_or, take, drop, length-append, drop_of_length-le}
-use lib.Seq.{sets, sets-eq, take-suc, length-take-le, take-length, drop-cons}
+use lib.ListN.{length, get_or, take, length-append, length-take}
+use lib.Seq.{sets, sets-eq, take-suc, length-take-le}
 use borrow.Author.Tests.{eq-eqb, ne_eqb, le-leb, lt-leb, leb-true, eqb-true}
+use Rattle.std.specs.List.{count_by}
+use Rattle.std.proofs.lemmas.List.Recursion.{is_count_by}
 use Rattle.laws.proofs.Tests.{test, and_left, and_right}
 use Rattle.table.specs.Model.{limit, in_limits, well_sized, first_above}
 use Rattle.table.proofs.Model.{limits}
 use Rattle.card.specs.Text.{LF, comma, rig_key, equations_key, unknowns_key, occurs_key, end_key, dec}
-use Rattle.card.specs.Entry.{name_byte, every, good_name}
+use Rattle.std.specs.List.{list_all}
+use Rattle.card.specs.Entry.{name_byte, good_name}
 use Rattle.card.specs.Card.{line_of, occurs_line, occurs_lines, occurrences, card_of, wrote_none}
 use Rattle.card.specs.Promise.{WriteGood, WriteDone}
 use Rattle.card.specs.Laid.{Laid}
@@ -54,6 +57,11 @@ line_short U cell code =
           (code - 1),
     )))
 
+-- the occurs lines are at most this long
+pub lines_short : (U at : ℕ) (t : List ℕ) → length (occurs_lines U at t) ≤ 22 * length t
+lines_short U at [] = omega arith
+lines_short U at (x ∷ t) = rw (length-append (occurs_line U at x) (occurs_lines U (at + 1) t)) (omega (arith, line_short U at x, lines_short U (at + 1) t))
+
 -- the lines of one list behind those of another
 pub lines_append : (U at : ℕ) (xs ys : List ℕ) → occurs_lines U at (xs ++ ys) ≡ occurs_lines U at xs ++ occurs_lines U (at + length xs) ys
 lines_append U at [] ys = let z : at + 0 ≡ at = omega arith in rw z
@@ -72,60 +80,18 @@ lines_step U t cell h =
     ∙ ap (λ n. occurs_lines U 0 (take cell t) ++ occurs_lines U n (x ∷ [])) z
     ∙ ap (λ l. occurs_lines U 0 (take cell t) ++ l) (append-nil (occurs_line U cell x)))
 
--- what the loop over the table keeps
-pub record Celling (before : List ℕ) (at U : ℕ) (t now : List ℕ) (next cell : ℕ) : Type 0 where
-  pub within : cell ≤ length t
-  pub near : next ≤ at + 22 * cell
-  pub run : Laid before at (occurs_lines U 0 (take cell t)) now next
+pub laid_line : (U : ℕ) (t : List ℕ) (cell : ℕ) {before now after : List ℕ} {at j k : ℕ} → Laid before at (occurs_lines U 0 (take cell t)) now j → cell < length t
+    → Laid now j (occurs_line U cell (get_or t cell 0)) after k → Laid before at (occurs_lines U 0 (take (cell + 1) t)) after k
+laid_line U t cell p h q = laid_same (lines_step U t cell h) (laid_then p q)
 
-pub celling_start : (before : List ℕ) (at U : ℕ) (t : List ℕ) → Celling before at U t before at 0
-celling_start before at U t = record { within = omega arith; near = omega arith; run = record { list = refl; place = omega arith } }
+-- the occurs lines so far are at most this long
+pub lines_near : (U : ℕ) (t : List ℕ) (cell : ℕ) → length (occurs_lines U 0 (take cell t)) ≤ 22 * cell
+lines_near U t cell = omega (arith, lines_short U 0 (take cell t), length-take cell t)
 
-pub celling_step : {before t now after : List ℕ} {at U next cell r : ℕ} → Celling before at U t now next cell → cell < length t
-    → Laid now next (occurs_line U cell (get_or t cell 0)) after r → Celling before at U t after r (cell + 1)
-celling_step {before} {t} {now} {after} {at} {U} {next} {cell} {r} k h p =
-    let w = k.near in
-    record {
-      within = omega arith;
-      near = omega (arith, p.place, line_short U cell (get_or t cell 0));
-      run = laid_same (lines_step U t cell h) (laid_then k.run p);
-    }
-
-pub celling_end : {before t now : List ℕ} {at U next cell : ℕ} → Celling before at U t now next cell → length t ≤ cell → Laid before at
-    (occurs_lines U 0 t) now next
-celling_end {before} {t} {now} {at} {U} {next} {cell} k h =
-    let w = k.within in
-    let e : cell ≡ length t = omega arith in
-    laid_same (rw (e, take-length t)) k.run
-
--- ---- how many occur: what the loop that counts keeps
-
-pub record CountingCodes (t : List ℕ) (count cell : ℕ) : Type 0 where
-  pub within : cell ≤ length t
-  pub few : count ≤ cell
-  pub same : occurrences t ≡ count + occurrences (drop cell t)
-
-pub counting_start : (t : List ℕ) → CountingCodes t 0 0
-counting_start t = record { within = omega arith; few = omega arith; same = omega arith }
-
-module _ {t : List ℕ} {count cell : ℕ} (k : CountingCodes t count cell) (h : cell < length t) where
-  here : drop cell t ≡ get_or t cell 0 ∷ drop (cell + 1) t
-  here = rw add-one (drop-cons t cell 0 h)
-
-  pub counting_more : (get_or t cell 0 ≡ 0 → ⊥) → CountingCodes t (count + 1) (cell + 1)
-  counting_more n =
-      let f = k.few in
-      let e : occurrences (drop cell t) ≡ occurrences (drop (cell + 1) t) + 1 = rw (here, ne_eqb (get_or t cell 0) 0 n) in
-      record { within = omega arith; few = omega arith; same = k.same ∙ omega arith }
-
-  pub counting_same : get_or t cell 0 ≡ 0 → CountingCodes t count (cell + 1)
-  counting_same n =
-      let f = k.few in
-      let e : occurrences (drop cell t) ≡ occurrences (drop (cell + 1) t) = rw (here, eq-eqb (get_or t cell 0) 0 n) in
-      record { within = omega arith; few = omega arith; same = k.same ∙ omega arith }
-
-pub counting_end : {t : List ℕ} {count cell : ℕ} → CountingCodes t count cell → length t ≤ cell → count ≡ occurrences t
-counting_end {t} {count} {cell} k h = let e : occurrences (drop cell t) ≡ 0 = rw (drop_of_length-le t h) in let s = k.same in omega arith
+-- how many occur, as the library counts
+pub occurrences_count : (t : List ℕ) → occurrences t ≡ count_by (λ code. not (eqb code 0)) t
+occurrences_count t = is_count_by occurrences (λ code. not (eqb code 0)) refl
+    (λ code t. test (eqb code 0) (λ z. rw z) (λ z. rw z (omega arith))) t
 
 -- ---- the whole card
 
@@ -138,11 +104,6 @@ card_parts name E U t = refl
 -- a line of a key and a number is at most this long
 pub key_line_short : (key : List ℕ) (n : ℕ) → length (line_of (key ++ dec n)) ≤ length key + 5
 key_line_short key n = simp length-append (omega (arith, dec_short n))
-
--- the occurs lines are at most this long
-pub lines_short : (U at : ℕ) (t : List ℕ) → length (occurs_lines U at t) ≤ 22 * length t
-lines_short U at [] = omega arith
-lines_short U at (x ∷ t) = rw (length-append (occurs_line U at x) (occurs_lines U (at + 1) t)) (omega (arith, line_short U at x, lines_short U (at + 1) t))
 
 -- the first three lines are at most this long
 pub head_short : (name : List ℕ) (E U : ℕ) → length name ≤ 24 → length
@@ -160,7 +121,7 @@ pub good_fits : {name : List ℕ} {E U : ℕ} {t : List ℕ} → WriteGood name 
 good_fits {name} {E} {U} {t} g =
     let l = limits E U g.limits in
     let s : length t ≡ E * U = eqb-true (length t) (E * U) g.sized in
-    let both = and_left (leb 1 (length name) && leb (length name) 24) (every name_byte name) g.named in
+    let both = and_left (leb 1 (length name) && leb (length name) 24) (list_all name_byte name) g.named in
     (leb-true (length name) 24 (and_right (leb 1 (length name)) (leb (length name) 24) both), l.1.low, l.1.high, rw s (mul-le-mul_right U l.0.high))
 
 module _ {name : List ℕ} {E U : ℕ} {t : List ℕ} (before : List ℕ) where

@@ -2,7 +2,8 @@
 -- Types that the code declares, and their cases:
 --   Value  of a text due to be one number, or a line due to be a key and one number. `Other`: another shape; `Says n`: the number is n
 --   Entry  of a line after the unknowns line. `Shape`: another shape; `Occurs e u k`: `occurs=e,u,k`; `End n`: `end=n`
-use Rattle.std.specs.Prelude.{Bool, true, ◌&&◌, ◌||◌, List, [], ◌∷◌, ℕ, ◌+◌, leb, eqb, length, drop}
+use Rattle.std.specs.Prelude.{Bool, ◌&&◌, ◌||◌, List, [], ◌∷◌, ℕ, ◌+◌, leb, eqb, length, drop}
+use Rattle.std.specs.List.{list_all}
 use Rattle.laws.specs.Tab.{pick}
 use Rattle.card.specs.Text.{comma, occurs_key, end_key, begins, is_letter, is_digit, number_of}
 use Rattle.card.specs.declared.text.Number.{Number}
@@ -16,12 +17,8 @@ use Rattle.card.specs.declared.entry.Entry.TheVariants.{Shape, Occurs, End}
 abbrev pub name_byte : ℕ → Bool
 name_byte b = is_letter b || (is_digit b || eqb b 45)
 
-abbrev pub every : (ℕ → Bool) → List ℕ → Bool
-every p [] = true
-every p (b ∷ text) = p b && every p text
-
 abbrev pub good_name : List ℕ → Bool
-good_name name = (leb 1 (length name) && leb (length name) 24) && every name_byte name
+good_name name = (leb 1 (length name) && leb (length name) 24) && list_all name_byte name
 
 -- a text that is one number and nothing behind it
 abbrev pub alone : ℕ → Number → Value

@@ -1,7 +1,8 @@
 -- Document 01, "The card": bytes, keys, numbers and lines.
 -- A type that the code declares, and its cases:
 --   Number  `Missing`: no digit stands in front; `Is value took`: a number, and how many bytes it takes
-use Rattle.std.specs.Prelude.{Bool, true, false, ◌&&◌, List, [], ◌∷◌, ℕ, zero, suc, ◌+◌, ◌-◌, ◌*◌, ◌/◌, ◌%◌, leb, ltb, eqb, drop}
+use Rattle.std.specs.Prelude.{Bool, ◌&&◌, List, [], ◌∷◌, ℕ, zero, suc, ◌+◌, ◌-◌, ◌*◌, ◌/◌, ◌%◌, leb, ltb, eqb, drop}
+use Rattle.std.specs.List.{starts_with}
 use Rattle.laws.specs.Tab.{pick}
 use Rattle.laws.specs.Text.{bytes}
 use Rattle.card.specs.declared.text.Number.{Number}
@@ -31,9 +32,7 @@ end_key = bytes "end="
 
 -- the text begins with these bytes
 abbrev pub begins : List ℕ → List ℕ → Bool
-begins [] text = true
-begins (k ∷ key) [] = false
-begins (k ∷ key) (b ∷ text) = eqb k b && begins key text
+begins key text = starts_with eqb text key
 
 -- a-z
 abbrev pub is_letter : ℕ → Bool

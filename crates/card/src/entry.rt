@@ -2,7 +2,7 @@
 ghost use Rattle.std.specs.Prelude.{◌≡◌};
 ghost use Rattle.card.specs.Entry.{name_byte, good_name, whole_of, value_of, comma_of, triple_of, entry_of};
 
-use crate::text::{Number, digit, front_number, letter, starts};
+use crate::text::{Number, front_number};
 
 // The value of a line of a key and one number.
 #[derive(Clone, Copy)]
@@ -26,33 +26,14 @@ pub enum Entry {
 fn name_byte(byte: u8) -> bool
     ensures { result ≡ name_byte byte }
 {
-    if letter(byte) {
-        return true;
-    }
-    if digit(byte) {
-        return true;
-    }
-    byte == b'-'
+    byte.is_ascii_lowercase() || byte.is_ascii_digit() || byte == b'-'
 }
 
 // 1 to 24 bytes of a-z, 0-9 and hyphen.
 pub fn good_name(name: &[u8]) -> bool
     ensures { result ≡ good_name name.now }
 {
-    if name.len() < 1 {
-        return false;
-    }
-    if 24 < name.len() {
-        return false;
-    }
-    let mut i = 0;
-    while i < name.len() {
-        if !name_byte(name[i]) {
-            return false;
-        }
-        i += 1;
-    }
-    true
+    1 <= name.len() && name.len() <= 24 && name.iter().all(|&byte| name_byte(byte))
 }
 
 // The whole text is one number.
@@ -73,7 +54,7 @@ fn whole(text: &[u8]) -> Value
 pub fn line_value(line: &[u8], key: &[u8]) -> Value
     ensures { result ≡ value_of key.now line.now }
 {
-    if !starts(line, key) {
+    if !line.starts_with(key) {
         return Value::Other;
     }
     let from = key.len();
@@ -87,7 +68,7 @@ fn with_comma(text: &[u8]) -> Number
     let Number::Is { value, took } = front_number(text) else {
         return Number::Missing;
     };
-    if starts(&text[took..], b",") {
+    if text[took..].starts_with(b",") {
         Number::Is {
             value,
             took: took + 1,
@@ -130,13 +111,13 @@ fn triple(text: &[u8]) -> Entry
 pub fn line_entry(line: &[u8]) -> Entry
     ensures { result ≡ entry_of line.now }
 {
-    if starts(line, b"end=") {
+    if line.starts_with(b"end=") {
         let Value::Says(count) = line_value(line, b"end=") else {
             return Entry::Shape;
         };
         return Entry::End(count);
     }
-    if !starts(line, b"occurs=") {
+    if !line.starts_with(b"occurs=") {
         return Entry::Shape;
     }
     triple(&line[7..])

@@ -5,7 +5,7 @@ ghost use Rattle.card.specs.Card.{rig_of, count_of};
 ghost use Rattle.card.specs.Steps.{HeadRead, CountsRead};
 
 use crate::entry::{Value, good_name, line_value};
-use crate::text::{Line, line_at, starts};
+use crate::text::{Line, line_at};
 use table::judge::counted;
 
 // The rig line: refused, or where its LF stands.
@@ -44,7 +44,7 @@ fn read_rig(card: &[u8]) -> Rig
         return Rig::Unnamed(11);
     };
     let line = &card[..end];
-    if !starts(line, b"rig=") {
+    if !line.starts_with(b"rig=") {
         return Rig::Unnamed(11);
     }
     if good_name(&line[4..]) {

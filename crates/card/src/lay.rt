@@ -40,33 +40,24 @@ fn put_cell(card: &mut [u8], at: usize, unknowns: usize, cell: usize, code: u8) 
 }
 
 // The occurs lines, row by row.
+#[tactic(auto, using(crate::proofs::WriteLaws::lines_near))]
 fn put_cells(card: &mut [u8], at: usize, unknowns: usize, table: &[u8]) -> usize
     requires { (at ≤ 2 ^ 32) × (1 ≤ unknowns) × (unknowns ≤ limit) × (length table.now ≤ limit * unknowns) }
     ensures { Laid card.old at (occurs_lines unknowns 0 table.now) card.new result }
 {
     let mut next = at;
-    let mut cell = 0;
-    while cell < table.len() {
-        next = put_cell(card, next, unknowns, cell, table[cell]);
-        cell += 1;
+    for (cell, &code) in table.iter().enumerate() {
+        next = put_cell(card, next, unknowns, cell, code);
     }
     next
 }
 
 // How many codes are not 0.
+#[tactic(auto, using(crate::proofs::WriteLaws::occurrences_count))]
 fn count_codes(table: &[u8]) -> usize
     ensures { result ≡ occurrences table.now }
 {
-    let mut count = 0;
-    let mut cell = 0;
-    while cell < table.len() {
-        let code = table[cell];
-        cell += 1;
-        if code != 0 {
-            count += 1;
-        }
-    }
-    count
+    table.iter().filter(|code| **code != 0).count()
 }
 
 // The first three lines, from the first byte on.

@@ -37,18 +37,6 @@ pub struct Writing {
     pub length: usize,
 }
 
-// The codes, written over the first bytes of the table buffer.
-fn copy(codes: &[u8], table: &mut [u8])
-    requires { length codes.now ≤ length table.old }
-    ensures { table.new ≡ codes.now ++ drop (length codes.now) table.old }
-{
-    let mut i = 0;
-    while i < codes.len() {
-        table[i] = codes[i];
-        i += 1;
-    }
-}
-
 // The lines behind the unknowns line, and the table written only when nothing is refused.
 fn read_rest(
     card: &[u8],
@@ -79,7 +67,7 @@ fn read_rest(
         };
     }
     let codes = collected.table;
-    copy(&codes[..size], table);
+    table[..size].copy_from_slice(&codes[..size]);
     Reading {
         number: 0,
         place: 0,

@@ -1,6 +1,6 @@
 // Bytes, numbers and lines.
 ghost use Rattle.std.specs.Prelude.{◌≡◌, drop};
-ghost use Rattle.card.specs.Text.{begins, is_letter, is_digit, number_of, lines_of};
+ghost use Rattle.card.specs.Text.{number_of, lines_of};
 ghost use Rattle.card.specs.Steps.{end_of};
 
 // A number at the front of a text, and how many bytes it takes.
@@ -17,60 +17,31 @@ pub enum Line {
     Ends(usize),
 }
 
-pub fn letter(byte: u8) -> bool
-    ensures { result ≡ is_letter byte }
-{
-    97 <= byte && byte <= 122
-}
-
-pub fn digit(byte: u8) -> bool
-    ensures { result ≡ is_digit byte }
-{
-    48 <= byte && byte <= 57
-}
-
-// The text begins with the key.
-pub fn starts(text: &[u8], key: &[u8]) -> bool
-    ensures { result ≡ begins key.now text.now }
-{
-    if text.len() < key.len() {
-        return false;
-    }
-    let mut i = 0;
-    while i < key.len() {
-        if key[i] != text[i] {
-            return false;
-        }
-        i += 1;
-    }
-    true
-}
-
 // The number at the front: a leading 0 stands alone, any other digit takes up to three more with it.
 pub fn front_number(text: &[u8]) -> Number
     ensures { result ≡ number_of text.now }
 {
-    if text.len() == 0 {
+    if text.is_empty() {
         return Number::Missing;
     }
     let first = text[0];
-    if !digit(first) {
+    if !first.is_ascii_digit() {
         return Number::Missing;
     }
     if first == b'0' {
         return Number::Is { value: 0, took: 1 };
     }
-    let mut value = (first - 48) as usize;
+    let mut value = (first - b'0') as usize;
     let mut took = 1;
     while took < 4 {
         if text.len() <= took {
             return Number::Is { value, took };
         }
         let byte = text[took];
-        if !digit(byte) {
+        if !byte.is_ascii_digit() {
             return Number::Is { value, took };
         }
-        value = value * 10 + (byte - 48) as usize;
+        value = value * 10 + (byte - b'0') as usize;
         took += 1;
     }
     Number::Is { value, took }

@@ -13,19 +13,19 @@ slice_bounds-line-end c =
     let k = found c.args.card.now 0 c.in-Ends.end (sym c.in-Ends.ensures) in
     sym (length-take-le c.in-Ends.end c.args.card.now (omega (arith, k.room)))
 
-pub returns-then-not-starts : goal.returns-then-not-starts
-returns-then-not-starts c = rig_shape c.args.card.now (found c.args.card.now 0 c.in-Ends.end (sym c.in-Ends.ensures)) (sym c.starts.ensures ∙ c.if-not-starts.true)
+pub returns-then-not-starts_with : goal.returns-then-not-starts_with
+returns-then-not-starts_with c = rig_shape c.args.card.now (found c.args.card.now 0 c.in-Ends.end (sym c.in-Ends.ensures)) (sym c.starts_with.ensures.value ∙ c.if-not-starts_with.true)
 
 pub returns-then-good_name : goal.returns-then-good_name
 returns-then-good_name c =
     let s = c.args.card.now in
     let e = c.in-Ends.end in
-    rig_good s (found s 0 e (sym c.in-Ends.ensures)) (sym c.starts.ensures ∙ c.if-not-starts.false)
+    rig_good s (found s 0 e (sym c.in-Ends.ensures)) (sym c.starts_with.ensures.value ∙ c.if-not-starts_with.false)
     (sym (c.good_name.ensures ∙ ap good_name (part_to_end (take e s) 4)) ∙ c.if-good_name.true)
 
 pub returns-else-good_name : goal.returns-else-good_name
 returns-else-good_name c =
     let s = c.args.card.now in
     let e = c.in-Ends.end in
-    rig_bad s (found s 0 e (sym c.in-Ends.ensures)) (sym c.starts.ensures ∙ c.if-not-starts.false)
+    rig_bad s (found s 0 e (sym c.in-Ends.ensures)) (sym c.starts_with.ensures.value ∙ c.if-not-starts_with.false)
     (sym (c.good_name.ensures ∙ ap good_name (part_to_end (take e s) 4)) ∙ c.if-good_name.false)
