@@ -1,6 +1,6 @@
 -- Laws of the written card: its lines laid one behind another, and how long each is.
 use mathlib.Core.Path.{◌≡◌, refl, ap, sym, ◌∙◌}
-use mathlib.Core.Bool.{true, false, not, ◌&&◌}
+use mathlib.Core.Bool.{not, ◌&&◌}
 use mathlib.Core.List.{List, [], ◌∷◌, ◌++◌, append_assoc, append-nil}
 use Prim.Native.Nat.{ℕ, suc, ◌+◌, ◌-◌, ◌*◌, ◌/◌, ◌%◌, ◌≤◌, ◌<◌}
 use native.Mathlib.Nat.{mul-le-mul_right}
@@ -9,19 +9,19 @@ use native.Mathlib.Numerals.{add-one}
 use lib.Dec.{eqb, leb}
 use lib.ListN.{length, get_or, take, length-append, length-take}
 use lib.Seq.{sets, sets-eq, take-suc, length-take-le}
-use borrow.Author.Tests.{eq-eqb, ne_eqb, le-leb, lt-leb, leb-true, eqb-true}
+use borrow.Author.Tests.{le-leb, leb-true, eqb-true}
 use Rattle.std.specs.List.{count_by}
 use Rattle.std.proofs.lemmas.List.Recursion.{is_count_by}
 use Rattle.laws.proofs.Tests.{test, and_left, and_right}
-use Rattle.table.specs.Model.{limit, in_limits, well_sized, first_above}
+use Rattle.table.specs.Model.{limit}
 use Rattle.table.proofs.Model.{limits}
 use Rattle.card.specs.Text.{LF, comma, rig_key, equations_key, unknowns_key, occurs_key, end_key, dec}
 use Rattle.std.specs.List.{list_all}
-use Rattle.card.specs.Entry.{name_byte, good_name}
-use Rattle.card.specs.Card.{line_of, occurs_line, occurs_lines, occurrences, card_of, wrote_none}
+use Rattle.card.specs.Entry.{name_byte}
+use Rattle.card.specs.Card.{line_of, occurs_line, occurs_lines, occurrences, card_of}
+use Rattle.std.specs.Prelude.{Ok}
 use Rattle.card.specs.Promise.{WriteGood, WriteDone}
 use Rattle.card.specs.Laid.{Laid}
-use Rattle.card.specs.declared.Writing.{Writing}
 use Rattle.card.proofs.PutLaws.{laid_then, dec_short}
 
 pub laid_same : {a b xs ys : List ℕ} {i j : ℕ} → xs ≡ ys → Laid a i xs b j → Laid a i ys b j
@@ -31,14 +31,6 @@ laid_same e k = rw e at k
 pub occurs_parts : (e u k : ℕ)
     → (((occurs_key ++ (dec e ++ comma ∷ [])) ++ (dec u ++ comma ∷ [])) ++ dec k) ++ LF ∷ [] ≡ line_of (occurs_key ++ dec e ++ comma ∷ dec u ++ comma ∷ dec k)
 occurs_parts e u k = simp append_assoc
-
--- a code 0 has no line
-pub cell_none : (l : List ℕ) (at U cell code : ℕ) → code ≡ 0 → Laid l at (occurs_line U cell code) l at
-cell_none l at U cell code h = rw (eq-eqb code 0 h) (record { list = refl; place = omega arith })
-
-pub cell_line : (U cell code e u k : ℕ) → (code ≡ 0 → ⊥) → e ≡ cell / U + 1 → u ≡ cell % U + 1 → k ≡ code - 1
-    → line_of (occurs_key ++ dec e ++ comma ∷ dec u ++ comma ∷ dec k) ≡ occurs_line U cell code
-cell_line U cell code e u k h p q r = rw (ne_eqb code 0 h, p, q, r)
 
 -- an occurs line is ten bytes longer than its three numbers
 pub occurs_length : (e u k : ℕ) → length (line_of (occurs_key ++ dec e ++ comma ∷ dec u ++ comma ∷ dec k)) ≡ length (dec e) + length (dec u) + length (dec k) + 10
@@ -112,10 +104,6 @@ head_short name E U h = simp length-append (omega (arith, dec_short E, dec_short
 
 -- ---- the writer
 
--- within the limits, well sized is E × U bytes
-pub sized_bytes : (E U : ℕ) (t : List ℕ) → well_sized E U t ≡ true → eqb (length t) (E * U) ≡ true
-sized_bytes E U t h = and_right (in_limits E U) (eqb (length t) (E * U)) h
-
 -- what the lines need of a good name and table
 pub good_fits : {name : List ℕ} {E U : ℕ} {t : List ℕ} → WriteGood name E U t → (length name ≤ 24) × (1 ≤ U) × (U ≤ limit) × (length t ≤ limit * U)
 good_fits {name} {E} {U} {t} g =
@@ -124,34 +112,15 @@ good_fits {name} {E} {U} {t} g =
     let both = and_left (leb 1 (length name) && leb (length name) 24) (list_all name_byte name) g.named in
     (leb-true (length name) 24 (and_right (leb 1 (length name)) (leb (length name) 24) both), l.1.low, l.1.high, rw s (mul-le-mul_right U l.0.high))
 
-module _ {name : List ℕ} {E U : ℕ} {t : List ℕ} (before : List ℕ) where
-  pub write_12 : {r : Writing} → r ≡ wrote_none 12 0 → good_name name ≡ false → WriteDone name E U t before r before
-  write_12 e a = rw e (record { answer = rw a; bytes = refl })
-
-  pub write_13 : {r : Writing} → r ≡ wrote_none 13 0 → good_name name ≡ true → in_limits E U ≡ false → WriteDone name E U t before r before
-  write_13 e a b = rw e (record { answer = rw (a, b); bytes = refl })
-
-  pub write_2 : {r : Writing} → r ≡ wrote_none 2 0 → good_name name ≡ true → in_limits E U ≡ true → well_sized E U t ≡ false → WriteDone name E U t before r before
-  write_2 e a b c = let d : eqb (length t) (E * U) ≡ false = rw b at c in rw e (record { answer = rw (a, b, d); bytes = refl })
-
-  pub write_4 : {r : Writing} {at : ℕ} → r ≡ wrote_none 4 at → at ≡ first_above t → good_name name ≡ true → in_limits E U ≡ true → eqb (length t) (E * U)
-      ≡ true → (at ≡ length t → ⊥)
-      → WriteDone name E U t before r before
-  write_4 {r} {at} e f a b c d = rw e (record { answer = rw (a, b, c, ← f, ne_eqb at (length t) d); bytes = refl })
-
-  module _ (g : WriteGood name E U t) where
-    pub write_18 : {r : Writing} → r ≡ wrote_none 18 0 → length before < length (card_of name E U t) → WriteDone name E U t before r before
-    write_18 e h = rw e (record { answer = rw (g.named, g.limits, g.sized, g.codes, lt-leb (length (card_of name E U t)) (length before) h); bytes = refl })
-
-    pub write_0 : {after : List ℕ} {m next : ℕ} → m ≡ length (card_of name E U t) → length (card_of name E U t) ≤ length before → Laid before 0
-        (card_of name E U t) after next
-        → WriteDone name E U t before (record { number = 0; place = 0; length = m }) after
-    write_0 {after} {m} e h k =
-        let z : 0 + length (card_of name E U t) ≡ length (card_of name E U t) = omega arith in
-        record {
-          answer = rw (e, g.named, g.limits, g.sized, g.codes, le-leb (length (card_of name E U t)) (length before) h);
-          bytes = k.list ∙ sets-eq (card_of name E U t) before 0 (rw z h) ∙ rw z;
-        }
+-- the card is written
+pub write_0 : {name : List ℕ} {E U : ℕ} {t before after : List ℕ} {next : ℕ} → WriteGood name E U t → length (card_of name E U t) ≤ length before
+    → Laid before 0 (card_of name E U t) after next → WriteDone name E U t before (Ok (length (card_of name E U t))) after
+write_0 {name} {E} {U} {t} {before} {after} g h k =
+    let z : 0 + length (card_of name E U t) ≡ length (card_of name E U t) = omega arith in
+    record {
+      answer = rw (g.named, g.limits, g.sized, g.codes, le-leb (length (card_of name E U t)) (length before) h);
+      bytes = k.list ∙ sets-eq (card_of name E U t) before 0 (rw z h) ∙ rw z;
+    }
 
 -- nothing is laid where there is no room at all
 pub laid_nothing : {after bytes : List ℕ} {i next : ℕ} → Laid [] i bytes after next → after ≡ []

@@ -16,10 +16,9 @@ use Rattle.std.specs.List.{list_all}
 use Rattle.card.specs.Entry.{name_byte, entry_of}
 use Rattle.card.specs.Card.{good, rig_of, count_said, count_of, in_range, not_after, cell, collected, list_of, headed, from_rig, judged, line_of, occurs_lines}
 use Rattle.card.specs.Card.{occurrences, card_of}
+use Rattle.std.specs.Prelude.{Some, Ok}
 use Rattle.card.specs.Promise.{WriteGood}
 use Rattle.card.specs.declared.entry.Entry.TheVariants.{Occurs, End}
-use Rattle.card.specs.declared.judge.Rig.TheVariants.{Named}
-use Rattle.card.specs.declared.judge.Count.TheVariants.{Counts}
 use Rattle.card.proofs.Lines.{value_dec, entry_occurs, entry_ended, lines_of_lem, rig_clear, value_clear, occurs_clear}
 use Rattle.card.proofs.Order.{cell_of, pair_at, Behind, behind_none, behind_some, behind_more, behind_after}
 use Rattle.card.proofs.ListLaws.{cells_within}
@@ -51,11 +50,11 @@ few (x ∷ t) = let l = few t in test (eqb x 0) (λ z. rw z (omega arith)) (λ z
 -- ---- the occurs lines and the end line
 
 module _ (name : List ℕ) (E U : ℕ) where
-  collected_occurs : (n e' u' at : ℕ) (t l : List ℕ) (rest : Lines) {e u k : ℕ} → entry_of l ≡ Occurs e u k → in_range E U e u k ≡ true → not_after e u e' u' ≡ false
+  collected_occurs : (n e' u' at : ℕ) (t l : List ℕ) (rest : Lines) {e u k : ℕ} → entry_of l ≡ Some (Occurs e u k) → in_range E U e u k ≡ true → not_after e u e' u' ≡ false
       → collected name E U n e' u' t at (line l rest) ≡ collected name E U (n + 1) e u (set t (cell U e u) (k + 1)) (at + length l + 1) rest
   collected_occurs n e' u' at t l rest p q r = rw (p, q, r)
 
-  collected_end : (n e' u' at N : ℕ) (t l : List ℕ) → entry_of l ≡ End N → N ≡ n → collected name E U n e' u' t at (line l none) ≡ good name E U t
+  collected_end : (n e' u' at N : ℕ) (t l : List ℕ) → entry_of l ≡ Some (End N) → N ≡ n → collected name E U n e' u' t at (line l none) ≡ good name E U t
   collected_end n e' u' at N t l p q = rw (p, eq-eqb N n q)
 
   -- the text of the codes r from byte c on
@@ -195,12 +194,12 @@ module _ (name : List ℕ) (E U : ℕ) (t : List ℕ) (g : WriteGood name E U t)
   name_is = ap (λ s. drop (length rig_key) (take (length (rig_key ++ name)) s)) card_is ∙ ap (drop (length rig_key))
       (take_at (rig_key ++ name) (LF ∷ second) (length (rig_key ++ name)) refl)
 
-  rig_named : (rest : Lines) → rig_of (line (rig_key ++ name) rest) ≡ Named (length (rig_key ++ name))
+  rig_named : (rest : Lines) → rig_of (line (rig_key ++ name) rest) ≡ Ok (length (rig_key ++ name))
   rig_named rest = rw g.named
 
-  count_said_lem : (key : List ℕ) (n at : ℕ) (rest : Lines) → n ≤ limit → counted_in n ≡ true → count_of key at (line (key ++ dec n) rest) ≡ Counts n
-      (at + length (key ++ dec n) + 1)
-  count_said_lem key n at rest h c = ap (count_said (at + length (key ++ dec n) + 1)) (value_dec key n (omega arith)) ∙ rw c
+  count_said_lem : (key : List ℕ) (n at : ℕ) (rest : Lines) → n ≤ limit → counted_in n ≡ true → count_of key at (line (key ++ dec n) rest) ≡ Ok
+      (n, at + length (key ++ dec n) + 1)
+  count_said_lem key n at rest h c = ap (count_said at (at + length (key ++ dec n) + 1)) (value_dec key n (omega arith)) ∙ rw c
 
   head_read : (at : ℕ) (rest : Lines)
       → headed name at (line (equations_key ++ dec E) (line (unknowns_key ++ dec U) rest))

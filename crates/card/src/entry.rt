@@ -4,17 +4,9 @@ ghost use Rattle.card.specs.Entry.{name_byte, good_name, whole_of, value_of, com
 
 use crate::text::{Number, front_number};
 
-// The value of a line of a key and one number.
-#[derive(Clone, Copy)]
-pub enum Value {
-    Other,
-    Says(usize),
-}
-
 // A line after the unknowns line.
 #[derive(Clone, Copy)]
 pub enum Entry {
-    Shape,
     Occurs {
         equation: usize,
         unknown: usize,
@@ -37,88 +29,69 @@ pub fn good_name(name: &[u8]) -> bool
 }
 
 // The whole text is one number.
-fn whole(text: &[u8]) -> Value
+fn whole(text: &[u8]) -> Option<usize>
     ensures { result ≡ whole_of text.now }
 {
-    let Number::Is { value, took } = front_number(text) else {
-        return Value::Other;
-    };
-    if took == text.len() {
-        Value::Says(value)
+    let number = front_number(text)?;
+    if number.took == text.len() {
+        Some(number.value)
     } else {
-        Value::Other
+        None
     }
 }
 
 // The line is the key and one number.
-pub fn line_value(line: &[u8], key: &[u8]) -> Value
+pub fn line_value(line: &[u8], key: &[u8]) -> Option<usize>
     ensures { result ≡ value_of key.now line.now }
 {
-    if !line.starts_with(key) {
-        return Value::Other;
+    if line.starts_with(key) {
+        whole(&line[key.len()..])
+    } else {
+        None
     }
-    let from = key.len();
-    whole(&line[from..])
 }
 
 // A number and a comma in front.
-fn with_comma(text: &[u8]) -> Number
+fn with_comma(text: &[u8]) -> Option<Number>
     ensures { result ≡ comma_of text.now }
 {
-    let Number::Is { value, took } = front_number(text) else {
-        return Number::Missing;
-    };
-    if text[took..].starts_with(b",") {
-        Number::Is {
-            value,
-            took: took + 1,
-        }
+    let number = front_number(text)?;
+    if text[number.took..].starts_with(b",") {
+        Some(Number {
+            value: number.value,
+            took: number.took + 1,
+        })
     } else {
-        Number::Missing
+        None
     }
 }
 
 // `e,u,k`.
-fn triple(text: &[u8]) -> Entry
+fn triple(text: &[u8]) -> Option<Entry>
     ensures { result ≡ triple_of text.now }
 {
-    let Number::Is {
-        value: equation,
-        took: first,
-    } = with_comma(text)
-    else {
-        return Entry::Shape;
-    };
-    let second_text = &text[first..];
-    let Number::Is {
-        value: unknown,
-        took: second,
-    } = with_comma(second_text)
-    else {
-        return Entry::Shape;
-    };
-    let Value::Says(order) = whole(&second_text[second..]) else {
-        return Entry::Shape;
-    };
-    Entry::Occurs {
-        equation,
-        unknown,
+    let equation = with_comma(text)?;
+    let behind = &text[equation.took..];
+    let unknown = with_comma(behind)?;
+    let order = whole(&behind[unknown.took..])?;
+    Some(Entry::Occurs {
+        equation: equation.value,
+        unknown: unknown.value,
         order,
-    }
+    })
 }
 
 // A line beginning `end=` is the end line, any other is due to be an occurs line.
-pub fn line_entry(line: &[u8]) -> Entry
+pub fn line_entry(line: &[u8]) -> Option<Entry>
     ensures { result ≡ entry_of line.now }
 {
     if line.starts_with(b"end=") {
-        let Value::Says(count) = line_value(line, b"end=") else {
-            return Entry::Shape;
-        };
-        return Entry::End(count);
+        let count = line_value(line, b"end=")?;
+        return Some(Entry::End(count));
     }
-    if !line.starts_with(b"occurs=") {
-        return Entry::Shape;
+    if line.starts_with(b"occurs=") {
+        triple(&line[7..])
+    } else {
+        None
     }
-    triple(&line[7..])
 }
