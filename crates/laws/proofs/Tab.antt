@@ -1,14 +1,14 @@
 -- Laws of lists given by a function of the place, and of a loop that fills one place after another.
 use mathlib.Core.Path.{◌≡◌, refl, ap, sym, ◌∙◌}
-use mathlib.Core.List.{List, ◌∷◌}
+use mathlib.Core.List.{List, ◌∷◌, map}
 use Prim.Native.Nat.{ℕ, zero, suc, ◌≤◌, ◌<◌, ◌+◌}
 use native.Mathlib.Omega.{arith}
 use native.Mathlib.Nat.{le_of_suc-le-suc, not-suc-le-zero}
 use lib.Dec.{ltb, eqb}
-use lib.ListN.{length, get_or, set, replicate, length-set, get_or-eq_default}
+use lib.ListN.{length, get_or, set, replicate, length-set, length-map, get_or-map, get_or-eq_default}
 use lib.Seq.{ext_get_or, get_or-set_same, get_or-set_other}
 use borrow.Author.Tests.{lt-ltb, le-ltb, eqb-true, eqb-false}
-use Rattle.laws.specs.Tab.{tab, upto, number_at}
+use Rattle.laws.specs.Tab.{tab, pick, upto, number_at}
 use Rattle.laws.proofs.Tests.{test, tests}
 
 module _ {A : Type 0} where
@@ -77,3 +77,11 @@ module _ {A : Type 0} where
 -- a loop has filled every place with what a list has there
 pub filled_list : (n i : ℕ) (l x : List ℕ) (g : ℕ → ℕ) → length l ≡ n → i ≡ n → x ≡ tab n (upto i (number_at l) g) → x ≡ l
 filled_list n i l x g e q h = h ∙ (rw q (fill_end n (number_at l) g)) ∙ sym (is_tab l 0 n (number_at l) e (λ k b. refl))
+
+-- a list whose places are all given
+pub whole_tab : {A : Type 0} (n : ℕ) (f : ℕ → A) (a : A) → tab n (λ i. pick (ltb i n) (f i) a) ≡ tab n f
+whole_tab n f a = tab_ext n (λ i. pick (ltb i n) (f i) a) f (λ i b. rw (lt-ltb i n b))
+
+-- a list's image, given by what stands at its places
+pub map_tab : {A B : Type 0} (f : A → B) (l : List A) (d : A) (n : ℕ) → length l ≡ n → tab n (λ i. f (get_or l i d)) ≡ map f l
+map_tab f l d n e = sym (is_tab (map f l) (f d) n (λ i. f (get_or l i d)) (length-map l f ∙ e) (λ i b. get_or-map f l i d))

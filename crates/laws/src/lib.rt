@@ -1,2 +1,4 @@
-// Counting, sums and finite search: definitions in specs/, laws in proofs/. No function.
+// Laws of sums, counts, tables, lists and texts; nothing of models.
 #![tactic(auto)]
+
+pub mod array;
