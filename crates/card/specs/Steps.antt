@@ -7,7 +7,7 @@
 use Rattle.std.specs.Prelude.{◌≡◌, true, Option, None, Some, Result, Ok, Err, List, ℕ, ◌+◌, ◌*◌, ◌≤◌, eqb, ltb, length, take, drop}
 use Rattle.laws.specs.Tab.{pick}
 use Rattle.table.specs.Model.{limit, in_limits}
-use Rattle.table.specs.Number.{equation_number, unknown_number}
+use Rattle.table.specs.Number.{equation_number, unknown_number, or_zero}
 use Rattle.card.specs.Text.{rig_key, Lines, none, cut, line, lines_of}
 use Rattle.card.specs.Refusal.{refused_at}
 use Rattle.card.specs.Card.{Judged, refused, good, judged, headed, Said, occurs, ends, list_of, read_of, table_of}
@@ -46,12 +46,10 @@ pub record CountsRead (s : List ℕ) (end : ℕ) (r : Result Head Refused) : Typ
 
 -- the numbers of the pair before, 0, 0 where there is none
 abbrev pub last_equation : Option Pair → ℕ
-last_equation None = 0
-last_equation (Some p) = equation_number p.equation
+last_equation last = or_zero (λ p. equation_number p.equation) last
 
 abbrev pub last_unknown : Option Pair → ℕ
-last_unknown None = 0
-last_unknown (Some p) = unknown_number p.unknown
+last_unknown last = or_zero (λ p. unknown_number p.unknown) last
 
 -- what a line says, by its numbers
 abbrev pub said : Turn → Said

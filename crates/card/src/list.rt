@@ -11,10 +11,10 @@ use crate::entry::{Entry, line_entry};
 use crate::refusal::{Refusal, Refused};
 use crate::text::line_at;
 use table::CELLS;
-use table::number::{Equation, Unknown};
+use table::number::{Counted, Equation, Unknown};
 
-// The pair of an occurs line.
-#[derive(Clone, Copy)]
+// The pair of an occurs line; pairs ascend by equation and then unknown.
+#[derive(Clone, Copy, PartialEq, Eq, PartialOrd, Ord)]
 pub struct Pair {
     pub equation: Equation,
     pub unknown: Unknown,
@@ -41,19 +41,9 @@ fn in_range(
 
 // The pair equals or precedes the one before.
 fn not_after(pair: Pair, last: Option<Pair>) -> bool
-    requires { 1 ≤ equation_number pair.equation }
     ensures { result ≡ not_after (equation_number pair.equation) (unknown_number pair.unknown) (last_equation last) (last_unknown last) }
 {
-    let Some(last) = last else {
-        return false;
-    };
-    if pair.equation.0 < last.equation.0 {
-        return true;
-    }
-    if pair.equation.0 == last.equation.0 {
-        return pair.unknown.0 <= last.unknown.0;
-    }
-    false
+    last.is_some_and(|last| pair <= last)
 }
 
 // What an occurs line `e,u,k` comes to: 14 before 15.
@@ -73,8 +63,8 @@ fn read_pair(
     if !in_range(equations, unknowns, e, u, k) {
         return Err(Refusal::OutOfRange.at(at));
     }
-    let equation = Equation(e as u8);
-    let unknown = Unknown(u as u8);
+    let equation = Equation::at(e - 1);
+    let unknown = Unknown::at(u - 1);
     let pair = Pair { equation, unknown };
     if not_after(pair, last) {
         return Err(Refusal::NotAfter.at(at));
@@ -145,9 +135,7 @@ pub fn read_list(
                 return Ok(table);
             }
             Turn::Next { pair, code, next } => {
-                let equation = pair.equation;
-                let unknown = pair.unknown;
-                let cell = equation.place() * unknowns + unknown.place();
+                let cell = pair.equation.place() * unknowns + pair.unknown.place();
                 table[cell] = code;
                 last = Some(pair);
                 count += 1;

@@ -22,14 +22,14 @@ pub fn front_number(text: &[u8]) -> Option<Number>
         return Some(Number { value: 0, took: 1 });
     }
     let mut number = Number {
-        value: (first - b'0') as usize,
+        value: usize::from(first - b'0'),
         took: 1,
     };
     for &byte in &rest[..rest.len().min(3)] {
         if !byte.is_ascii_digit() {
             return Some(number);
         }
-        number.value = number.value * 10 + (byte - b'0') as usize;
+        number.value = number.value * 10 + usize::from(byte - b'0');
         number.took += 1;
     }
     Some(number)

@@ -48,12 +48,6 @@ returns-in-Last c =
     collecting_end c.loop-said.invariant (last (goal.at.returns-in-Last c).In-Last)
     (sym c.read_end.ensures ∙ c.in_ok-read_end-in-Last.was)
 
-pub place-requires : goal.place-requires
-place-requires c = (took (goal.at.place-requires c).In-Next).0.ranged.e_low
-
-pub place-requires-in-Next : goal.place-requires-in-Next
-place-requires-in-Next c = (took (goal.at.place-requires-in-Next c).In-Next).0.ranged.u_low
-
 pub bounds-table-cell : goal.bounds-table-cell
 bounds-table-cell c =
     cell_fits {U = c.args.unknowns} c.requires.0 (took (goal.at.bounds-table-cell c).In-Next).0.ranged c.place.ensures c.place-in-Next.ensures

@@ -16,9 +16,10 @@ returns-then-not-is_ascii_digit-2 c =
 
 pub loop-byte-preserved : goal.loop-byte-preserved
 loop-byte-preserved c =
-    taken_step (text_is (goal.at.loop-byte-preserved c).In_ok-first) (sym c.is_ascii_digit.ensures.value ∙ c.if-not-is_ascii_digit.false) c.if-first-eq48.false
+    rw c.from-in-loop-byte.ensures
+    (taken_step (text_is (goal.at.loop-byte-preserved c).In_ok-first) (sym c.is_ascii_digit.ensures.value ∙ c.if-not-is_ascii_digit.false) c.if-first-eq48.false
     c.min.ensures c.loop-byte.invariant
-    c.loop-byte-test.true (sym c.is_ascii_digit-in-loop-byte.ensures.value ∙ c.if-not-is_ascii_digit-2.false)
+    c.loop-byte-test.true (sym c.is_ascii_digit-in-loop-byte.ensures.value ∙ c.if-not-is_ascii_digit-2.false))
 
 pub returns : goal.returns
 returns c =
