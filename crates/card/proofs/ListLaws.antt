@@ -189,10 +189,6 @@ module _ {s : List ℕ} {E U from : ℕ} {t : List ℕ} {e' u' n at : ℕ} (k : 
             ∙ rw (q, w.1.on, take-set-lt (E * U) t (cell U e u) code (cell_within w.0.ranged));
       }
 
-  pub collecting_refused : {r : Refused} → turn_of E U e' u' at (lines_of (drop at s)) ≡ Err r → ListRead s E U from (Err r)
-  collecting_refused {r} q =
-      record { same = λ name. k.same name ∙ collected_turn name E U n e' u' (take (E * U) t) at (lines_of (drop at s)) ∙ rw q; sized = tt }
-
   module _ {m next : ℕ} (q : turn_of E U e' u' at (lines_of (drop at s)) ≡ Ok (ends m next)) where
     ending : (name : List ℕ) → list_of name E U from (lines_of (drop from s))
         ≡ pick (eqb m n) (finished name E U (take (E * U) t) next (lines_of (drop next s))) (refused (refused_at EndNumber at))
