@@ -78,7 +78,8 @@ taking : (E U e' u' at next : ℕ) (en : Option Entry) {e u code n : ℕ} → tu
     → Taking E U e' u' e u code × (next ≡ n)
 taking E U e' u' at next None q = cc
 taking E U e' u' at next (Some (End m)) q = cc
-taking E U e' u' at next (Some (Occurs e₀ u₀ k)) {e} {u} {code} {n} q =
+taking E U e' u' at next (Some (Occurs o)) {e} {u} {code} {n} q =
+    let e₀ = o.equation in let u₀ = o.unknown in let k = o.order in
     test (in_range E U e₀ u₀ k)
     (λ t. test (not_after e₀ u₀ e' u')
     (λ b. let f : Err (refused_at NotAfter at) ≡ Ok (occurs e u code n) = rw (t, b) at q in cc)
@@ -92,7 +93,8 @@ taking E U e' u' at next (Some (Occurs e₀ u₀ k)) {e} {u} {code} {n} q =
 last_said : (E U e' u' at next : ℕ) (en : Option Entry) {m n : ℕ} → turn_said E U e' u' at next en ≡ Ok (ends m n) → (en ≡ Some (End m)) × (next ≡ n)
 last_said E U e' u' at next None q = cc
 last_said E U e' u' at next (Some (End m)) q = (cc, cc)
-last_said E U e' u' at next (Some (Occurs e u k)) {m} {n} q =
+last_said E U e' u' at next (Some (Occurs o)) {m} {n} q =
+    let e = o.equation in let u = o.unknown in let k = o.order in
     test (in_range E U e u k)
     (λ t. test (not_after e u e' u') (λ b. cc (simp (t, b) at q)) (λ b. cc (simp (t, b) at q)))
     (λ t. test (not_after e u e' u') (λ b. cc (simp (t, b) at q)) (λ b. cc (simp (t, b) at q)))
