@@ -1,22 +1,15 @@
 -- Laws of laying bytes into a card: one run behind another is one longer run, and a byte for which there is no room changes nothing.
-use mathlib.Core.Path.{◌≡◌, refl, ap, sym, ◌∙◌}
+use mathlib.Core.Path.{◌≡◌, refl, ap, ◌∙◌}
 use mathlib.Core.List.{List, [], ◌∷◌, ◌++◌}
 use Prim.Native.Nat.{ℕ, suc, ◌+◌, ◌-◌, ◌/◌, ◌≤◌, ◌<◌}
 use native.Mathlib.Omega.{arith}
 use native.Mathlib.Numerals.{add-one}
 use lib.ListN.{length, get_or, take, drop, set, length-append, length-drop}
-use lib.Seq.{sets, length-sets, set_out, take-suc, length-take-le, take-length}
+use lib.Seq.{sets, length-sets, take-suc}
 use borrow.Author.Rules.{part_to_end}
-use lib.Dec.{ltb}
-use Rattle.laws.proofs.Tests.{test}
-use Rattle.card.specs.Text.{digit_of, zeros_of, dec}
-use Rattle.card.specs.Laid.{Laid}
-
-pub laid_here : (l : List ℕ) (at b : ℕ) → Laid l at (b ∷ []) (set l at b) (at + 1)
-laid_here l at b = record { list = refl; place = refl }
-
-pub laid_out : (l : List ℕ) (at b : ℕ) → length l ≤ at → Laid l at (b ∷ []) l (at + 1)
-laid_out l at b h = record { list = sym (set_out l at b h); place = refl }
+use Rattle.card.specs.Text.{comma, digit_of, zeros_of, dec}
+use Rattle.card.specs.Laid.{Laid, LaidOn}
+use Rattle.card.specs.declared.put.Sheet.{Sheet}
 
 sets_append : (xs ys l : List ℕ) (i : ℕ) → sets (sets l i xs) (i + length xs) ys ≡ sets l i (xs ++ ys)
 sets_append [] ys l i = let z : i + 0 ≡ i = omega arith in rw z
@@ -33,55 +26,34 @@ laid_then {a} {b} {c} {xs} {ys} {i} {j} {k} p q =
 pub laid_length : {a b xs : List ℕ} {i j : ℕ} → Laid a i xs b j → length b ≡ length a
 laid_length {a} {b} {xs} {i} p = ap length p.list ∙ length-sets a i xs
 
--- a run, byte by byte: what the loop keeps
-pub record Laying (before : List ℕ) (at : ℕ) (bytes now : List ℕ) (i : ℕ) : Type 0 where
-  pub within : i ≤ length bytes
-  pub run : Laid before at (take i bytes) now (at + i)
+pub laid_on_then : {a b c : Sheet} {xs ys : List ℕ} → LaidOn a xs b → LaidOn b ys c → LaidOn a (xs ++ ys) c
+laid_on_then p q = record { same = q.same ∙ p.same; laid = laid_then p.laid q.laid }
 
-pub laying_start : (before : List ℕ) (at : ℕ) (bytes : List ℕ) → Laying before at bytes before 0
-laying_start before at bytes = record { within = omega arith; run = record { list = refl; place = refl } }
-
-pub laying_step : {before bytes now after : List ℕ} {at i r : ℕ} → Laying before at bytes now i → i < length bytes
-    → Laid now (at + i) (get_or bytes i 0 ∷ []) after r → Laying before at bytes after (i + 1)
-laying_step {before} {bytes} {now} {after} {at} {i} {r} k h p =
-    let q = laid_then k.run p in
-    record {
-      within = omega arith;
-      run = record {
-        list = q.list ∙ ap (sets before at) (sym (take-suc bytes i 0 h)) ∙ (rw add-one);
-        place = let e : i + 1 ≤ length bytes = omega arith in rw (length-take-le (i + 1) bytes e);
-      };
-    }
-
-pub laying_end : {before bytes now : List ℕ} {at i : ℕ} → Laying before at bytes now i → length bytes ≤ i → Laid before at bytes now (at + i)
-laying_end {before} {bytes} {now} {at} {i} k h =
-    let w = k.within in
-    let e : i ≡ length bytes = omega arith in
-    record { list = k.run.list ∙ rw (e, take-length bytes); place = rw e }
+-- a run, byte by byte
+pub laid_more : (bytes : List ℕ) (i : ℕ) {a b c : Sheet} → LaidOn a (take i bytes) b → i < length bytes → LaidOn b (get_or bytes i 0 ∷ []) c
+    → LaidOn a (take (i + 1) bytes) c
+laid_more bytes i p h q = rw (add-one, take-suc bytes i 0 h) (laid_on_then p q)
 
 -- ---- numbers
-
-pub zeros_small : (n : ℕ) → zeros_of n ≤ 3
-zeros_small n = test (ltb n 10) (λ a. rw a (omega arith)) (λ a. test (ltb n 100) (λ b. rw (a, b) (omega arith))
-    (λ b. test (ltb n 1000) (λ c. rw (a, b, c) (omega arith)) (λ c. rw (a, b, c) (omega arith))))
 
 pub dec_short : (n : ℕ) → length (dec n) ≤ 4
 unfolding dec
 dec_short n = rw length-drop (omega arith)
+
+-- a number and the comma behind it
+pub comma_short : (n : ℕ) → length (dec n ++ comma ∷ []) ≤ 5
+comma_short n = omega (arith, dec_short n, length-append (dec n) (comma ∷ []))
 
 dec_is : (n : ℕ) → drop (zeros_of n) (digit_of (n / 1000) ∷ digit_of (n / 100) ∷ digit_of (n / 10) ∷ digit_of n ∷ []) ≡ dec n
 unfolding dec
 dec_is n = refl
 
 -- the four digits from the first that counts
-pub number_laid : (n : ℕ) {a b : List ℕ} {at next d₁ d₂ d₃ d₄ z : ℕ} → d₁ ≡ digit_of (n / 1000) → d₂ ≡ digit_of (n / 100) → d₃ ≡ digit_of (n / 10) → d₄
-    ≡ digit_of n → z ≡ zeros_of n
-    → Laid a at (take (4 - z) (drop z (d₁ ∷ d₂ ∷ d₃ ∷ d₄ ∷ []))) b next → Laid a at (dec n) b next
-number_laid n {a} {b} {at} {next} {d₁} {d₂} {d₃} {d₄} {z} p q r s t w = rw (← same) w
+pub digits_laid : (n : ℕ) {d₁ d₂ d₃ d₄ z : ℕ} → d₁ ≡ digit_of (n / 1000) → d₂ ≡ digit_of (n / 100) → d₃ ≡ digit_of (n / 10) → d₄ ≡ digit_of n → z ≡ zeros_of n
+    → take (4 - z) (drop z (d₁ ∷ d₂ ∷ d₃ ∷ d₄ ∷ [])) ≡ dec n
+digits_laid n {d₁} {d₂} {d₃} {d₄} {z} p q r s t =
+    part_to_end (d₁ ∷ d₂ ∷ d₃ ∷ d₄ ∷ []) z ∙ ap (drop z) four ∙ ap
+    (λ k. drop k (digit_of (n / 1000) ∷ digit_of (n / 100) ∷ digit_of (n / 10) ∷ digit_of n ∷ [])) t ∙ dec_is n
   where
     four : d₁ ∷ d₂ ∷ d₃ ∷ d₄ ∷ [] ≡ digit_of (n / 1000) ∷ digit_of (n / 100) ∷ digit_of (n / 10) ∷ digit_of n ∷ []
     four = cc
-
-    same : take (4 - z) (drop z (d₁ ∷ d₂ ∷ d₃ ∷ d₄ ∷ [])) ≡ dec n
-    same = part_to_end (d₁ ∷ d₂ ∷ d₃ ∷ d₄ ∷ []) z ∙ ap (drop z) four ∙ ap
-        (λ k. drop k (digit_of (n / 1000) ∷ digit_of (n / 100) ∷ digit_of (n / 10) ∷ digit_of n ∷ [])) t ∙ dec_is n

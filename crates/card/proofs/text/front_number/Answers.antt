@@ -1,13 +1,18 @@
 -- `card::text::front_number` meets its contract: the loop keeps `Taken`, that the number is what is read so far with the digits to come.
 use mathlib.Core.Path.{sym, ◌∙◌}
-use native.Mathlib.Omega.{arith}
-use Rattle.card.proofs.TextLaws.{taken_stop, taken_step}
+use Rattle.card.proofs.TextLaws.{taken_stop, taken_step, taken_end}
 use Rattle.card.proofs.text.front_number.Goals as goal
 
-pub returns-then-not-digit-2 : goal.returns-then-not-digit-2
-returns-then-not-digit-2 c = taken_stop c.loop-took.invariant (omega arith) (omega arith)
-    (sym c.digit-in-loop-took.ensures ∙ c.if-not-digit-2.true)
+pub returns-then-not-is_ascii_digit-2 : goal.returns-then-not-is_ascii_digit-2
+returns-then-not-is_ascii_digit-2 c =
+    taken_stop c.in_ok-first.ensures.cases.0 c.min.ensures c.loop-byte.invariant c.loop-byte-test.true
+    (sym c.is_ascii_digit-in-loop-byte.ensures.value ∙ c.if-not-is_ascii_digit-2.true)
 
-pub loop-took-preserved : goal.loop-took-preserved
-loop-took-preserved c = taken_step c.loop-took.invariant (omega arith) (omega arith)
-    (sym c.digit-in-loop-took.ensures ∙ c.if-not-digit-2.false)
+pub loop-byte-preserved : goal.loop-byte-preserved
+loop-byte-preserved c =
+    rw c.from-in-loop-byte.ensures
+    (taken_step c.in_ok-first.ensures.cases.0 c.min.ensures c.loop-byte.invariant c.loop-byte-test.true
+    (sym c.is_ascii_digit-in-loop-byte.ensures.value ∙ c.if-not-is_ascii_digit-2.false))
+
+pub returns : goal.returns
+returns c = taken_end c.in_ok-first.ensures.cases.0 c.min.ensures c.loop-byte.invariant c.loop-byte-test.false
