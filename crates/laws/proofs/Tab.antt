@@ -9,7 +9,7 @@ use lib.Dec.{ltb, eqb}
 use lib.ListN.{length, get_or, set, replicate, length-set, length-map, get_or-map, get_or-eq_default}
 use lib.Seq.{ext_get_or, get_or-set_same, get_or-set_other}
 use borrow.Author.Tests.{lt-ltb, le-ltb, eqb-true, eqb-false}
-use Rattle.laws.specs.Tab.{tab, pick, upto, number_at}
+use Rattle.laws.specs.Tab.{tab, pick, upto}
 use Rattle.laws.proofs.Tests.{test, tests}
 
 module _ {A : Type 0} where
@@ -74,10 +74,6 @@ module _ {A : Type 0} where
 
   pub fill_end : (n : ℕ) (f g : ℕ → A) → tab n (upto n f g) ≡ tab n f
   fill_end n f g = tab_ext n (upto n f g) f (λ i b. upto_below n f g i b)
-
--- a loop has filled every place with what a list has there
-pub filled_list : (n i : ℕ) (l x : List ℕ) (g : ℕ → ℕ) → length l ≡ n → i ≡ n → x ≡ tab n (upto i (number_at l) g) → x ≡ l
-filled_list n i l x g e q h = h ∙ (rw q (fill_end n (number_at l) g)) ∙ sym (is_tab l 0 n (number_at l) e (λ k b. refl))
 
 -- a list whose places are all given
 pub whole_tab : {A : Type 0} (n : ℕ) (f : ℕ → A) (a : A) → tab n (λ i. pick (ltb i n) (f i) a) ≡ tab n f

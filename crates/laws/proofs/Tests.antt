@@ -56,10 +56,3 @@ or_right a p = test a (λ t. cc) (λ f. cc)
 -- equal tests: each follows from the other
 pub same_test : {a b : Bool} → (a ≡ true → b ≡ true) → (b ≡ true → a ≡ true) → a ≡ b
 same_test {a} {b} f g = test a (λ t. let u = f t in cc) (λ n. test b (λ u. clash (g u) n) (λ u. cc))
-
--- a conjunction whose first half was tested: it is the second half, or false
-pub and_then : {r s a b : Bool} → r ≡ a → r ≡ true → s ≡ b → s ≡ (a && b)
-and_then p t q = cc
-
-pub and_fails : {r a : Bool} (b : Bool) → r ≡ a → r ≡ false → false ≡ (a && b)
-and_fails b p f = cc

@@ -15,7 +15,6 @@ use Rattle.std.specs.declared.option.Option.{Option}
 use Rattle.table.specs.declared.number.Equation.{Equation}
 use Rattle.pairing.specs.Pairing.{Rel, Pairing, LeftOver}
 use Rattle.pairing.specs.Holders.{holder, held, HoldsSome, Reach, start, step, Found, Nothing, Asking}
-use Rattle.pairing.specs.Certificate.{Certificate}
 
 pub record Pass (m n : ℕ) (edge : Rel) (h : List (Option Equation)) (a : List Bool) (i : ℕ) : Type 0 where
   pub ok : Pairing m n edge (held h)
@@ -102,7 +101,3 @@ module _ {m n : ℕ} {edge : Rel} {h : List (Option Equation)} {a : List Bool} {
       near : (e : ℕ) → Reach edge (held h) i e → e < i + 1
       near e start = omega arith
       near e (step u w d t) = let z = p.tried e (u, t) in omega arith
-
--- all have searched
-pub pass_end : {m n : ℕ} {edge : Rel} {h : List (Option Equation)} {a : List Bool} → Pass m n edge h a m → Certificate m n edge (held h) (marked a)
-pass_end p = record { ok = p.ok; within = p.within; out = p.out; inn = p.inn; reached = p.reached }

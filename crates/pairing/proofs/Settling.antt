@@ -17,13 +17,10 @@ use Rattle.table.specs.declared.number.Equation.{Equation}
 use Rattle.table.specs.declared.number.Unknown.{Unknown}
 use Rattle.pairing.specs.Pairing.{Rel, Full}
 use Rattle.pairing.specs.Holders.{held}
-use Rattle.pairing.specs.Handed.{partner_of, FirstIs}
+use Rattle.pairing.specs.Handed.{partner_of}
 use Rattle.pairing.specs.Choosing.{HeldBy, Keeps, Tried, Settled}
-use Rattle.pairing.proofs.Choice.{full_chosen, full_partners, partners_of, lowest}
+use Rattle.pairing.proofs.Choice.{full_chosen, full_partners, lowest}
 use Rattle.pairing.proofs.Trying.{owns}
-
-pub settle_start : {n : ℕ} {edge : Rel} {h : List (Option Equation)} → Full n n edge (held h) → Settled n edge h 0
-settle_start full = record { full = full; low = λ q e l. absurd (omega arith) }
 
 -- no choice that keeps what those before e hold gives e an unknown before u
 abbrev pub NoneBelow : ℕ → Rel → List (Option Equation) → ℕ → ℕ → Type 0
@@ -88,13 +85,3 @@ read_next {n} {edge} {h} {l} {e} x ln b full y r = record {
 
     there : (i : ℕ) → (i ≡ e → ⊥) → partner_of (set l e x) i ≡ partner_of l i
     there i ne = ap (or_zero unknown_number) (get_or-set_other l e i x None ne)
-
-pub first_is : {n : ℕ} {edge : Rel} {h : List (Option Equation)} {l : List (Option Unknown)} → Settled n edge h n → TakenOff n h l n → FirstIs n edge l
-first_is {n} {edge} {h} {l} s r = record {
-  first = record {
-    ok = partners_of s.full.ok (λ e b. (r.read e b).1);
-    low = λ q k e b same. s.low q e b (record { ok = k; agrees = λ i c. rw (same i c) (r.read i (omega arith)).1 }) (partner_of l e - 1) (r.read e b).1;
-  };
-  numbered = λ e b. (r.read e b).0;
-  beyond = r.beyond;
-}

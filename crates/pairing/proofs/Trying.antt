@@ -4,16 +4,16 @@
 use mathlib.Core.Path.{◌≡◌, refl, sym, ap, ◌∙◌}
 use mathlib.Core.Bool.{Bool, true, false, not}
 use mathlib.Core.List.{List}
-use Prim.Native.Nat.{ℕ, suc, ◌+◌, ◌-◌, ◌<◌, ◌≤◌}
+use Prim.Native.Nat.{ℕ, suc, ◌-◌, ◌<◌, ◌≤◌}
 use native.Mathlib.Omega.{arith}
 use lib.Dec.{eqb, ltb}
-use lib.ListN.{length, set, replicate, length-set}
+use lib.ListN.{length, set, length-set}
 use lib.Seq.{get_or-set_same, get_or-set_other}
 use borrow.Author.Tests.{eqb-true, eqb-false, eq-eqb, lt-ltb, ltb-true, not-false}
 use Rattle.laws.specs.Marks.{marked}
 use Rattle.laws.specs.Tab.{tab, upto}
 use Rattle.laws.proofs.Tests.{test, tests, given, clash, true≢false, not_true}
-use Rattle.laws.proofs.Tab.{get_or_tab, get_or_past, tab_ext, replicate_tab, fill_start, fill_step}
+use Rattle.laws.proofs.Tab.{get_or_tab, get_or_past, tab_ext}
 use Rattle.table.specs.Model.{limit}
 use Rattle.std.specs.Option.{MatchOption}
 use Rattle.std.specs.Bool.{then_some}
@@ -44,21 +44,6 @@ are_marks k i l b = get_or_tab limit (λ x. ltb x k) i false (omega arith) ∙ l
 -- marking one after the other
 as_filled : (k : ℕ) → marks k ≡ tab limit (upto k (λ i. true) (λ i. false))
 as_filled k = tab_ext limit (λ i. ltb i k) (upto k (λ i. true) (λ i. false)) (λ i b. test (ltb i k) (λ t. rw t) (λ t. rw t))
-
-pub marks_start : replicate limit false ≡ marks 0
-marks_start = replicate_tab limit false ∙ fill_start limit (λ i. true) (λ i. false) ∙ sym (as_filled 0)
-
-pub marks_step : (k : ℕ) → k < limit → set (marks k) k true ≡ marks (k + 1)
-marks_step k b = rw (as_filled k, as_filled (k + 1)) (fill_step limit k (λ i. true) (λ i. false) b)
-
--- looking for what e holds
-pub held_hit : {n : ℕ} {h : List (Option Equation)} {e : ℕ} (u x : ℕ) → x ≡ u + 1 → u < n → holder h u ≡ suc e → HeldBy n h e x
-held_hit {h = h} {e = e} u x q b t =
-    let p : x - 1 ≡ u = omega arith in
-    record { hit = λ ne. (rw p b, rw p (eq-eqb (holder h u) (suc e) t)); none = λ z. absurd (omega arith) }
-
-pub held_none : {n : ℕ} {h : List (Option Equation)} {e : ℕ} (u : ℕ) → n ≤ u → ((v : ℕ) → v < u → held h e v ≡ true → ⊥) → HeldBy n h e 0
-held_none u b all = record { hit = λ ne. absurd (ne refl); none = λ z v l. all v (omega arith) }
 
 -- what e holds is the unknown found
 pub owns : {n : ℕ} {edge : Rel} {h : List (Option Equation)} {e w : ℕ} → Full n n edge (held h) → e < n → HeldBy n h e w → (w ≡ 0 → ⊥) × ((w - 1 < n) × (held h e (w - 1) ≡ true))
@@ -188,10 +173,6 @@ module _ {n : ℕ} {edge : Rel} {h : List (Option Equation)} {e u w : ℕ} {x : 
 
   pub swapped_tried : {got : ℕ} {k : List (Option Equation)} {b : List Bool} → Searched n n edge (holder h u - 1) (marks (suc e)) swapped got k b → Tried n edge e u h (not (eqb got 0)) k
   swapped_tried = tried_search a.full a.equation a.limits a.own released swapped a.occurs by after taken
-
--- the unknown does not occur in e
-pub tried_absent : {n : ℕ} {edge : Rel} {e u : ℕ} {h : List (Option Equation)} → e < n → edge e u ≡ false → Tried n edge e u h false h
-tried_absent l f = record { yes = λ t. absurd (true≢false (sym t)); no = λ t q keep same. clash (rw same at (keep.ok.fits _ l)) f }
 
 -- e, or an equation before it, holds the unknown
 pub tried_held : {n : ℕ} {edge : Rel} {e u : ℕ} {h : List (Option Equation)} {x : ℕ} → Full n n edge (held h) → e < n → u < n → x ≡ suc e → holder h u ≤ x

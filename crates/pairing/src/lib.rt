@@ -8,6 +8,8 @@ pub mod search;
 use table::LIMIT;
 use table::number::Equation;
 
+// Kept (point 6): arrays of the limit's length, of which a table's equations or unknowns are used: there is no heap.
+
 // Who holds each unknown.
 pub type Holders = [Option<Equation>; LIMIT];
 

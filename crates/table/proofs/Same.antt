@@ -39,15 +39,6 @@ one_unknown None (Some y) e = let p = y.0.ok in absurd (omega arith)
 one_unknown (Some x) None e = let p = x.0.ok in absurd (omega arith)
 one_unknown (Some x) (Some y) e = ap {B = Option Unknown} (λ v. Some (record { 0 = v })) (same_value x.0 y.0 e)
 
--- there is one exactly where the number is not 0
-pub some_equation : (x : Option Equation) → is_some x ≡ true → 1 ≤ or_zero equation_number x
-some_equation None h = clash h refl
-some_equation (Some x) h = x.0.ok
-
-pub none_equation : (x : Option Equation) → is_some x ≡ false → or_zero equation_number x ≡ 0
-none_equation None h = refl
-none_equation (Some x) h = clash refl h
-
 pub some_unknown : (x : Option Unknown) → is_some x ≡ true → 1 ≤ or_zero unknown_number x
 some_unknown None h = clash h refl
 some_unknown (Some x) h = x.0.ok

@@ -33,6 +33,7 @@ fn above(table: &[u8]) -> Option<usize>
 }
 
 // The offset of the first code above 4, or the table's length where there is none.
+// Kept (point 1): the length stands for none, for the definition `first_above` says so, and `refusal` of analysis and `write_of` of card stand on it.
 #[tactic(auto, using(crate::proofs::Model::first_found))]
 pub fn first_above(table: &[u8]) -> usize
     ensures { result ≡ first_above table.now }

@@ -13,6 +13,8 @@ pub const LIMIT: usize = 32;
 pub const CELLS: usize = LIMIT * LIMIT;
 
 // What one equation has at each unknown, and the rows of all equations.
+// Kept (point 6): arrays of the limit's length, and how much of them is used stands beside them (`rows::Table`): there is no heap, and document 01 holds the
+// table as an array of arrays by value.
 pub type Row = [u8; LIMIT];
 
 pub type Rows = [Row; LIMIT];

@@ -1,4 +1,5 @@
 // Equation numbers and unknown numbers count separately, each from 1, and one is never used for the other.
+// Kept (point 2): two types that differ in their names alone, for document 01 asks for a tuple struct each; all that they share is in the trait `Counted`.
 ghost use Rattle.std.specs.Prelude.{◌≡◌, get_or, map, ℕ, ◌+◌, ◌-◌, ◌<◌};
 ghost use Rattle.std.specs.Int.NonZero.{non_zero_u8_get};
 ghost use Rattle.table.specs.Model.{limit};
