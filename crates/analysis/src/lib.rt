@@ -27,8 +27,8 @@ pub extern "C" fn mudorder_analyse(
 ) -> u64
     ensures { Reply equations unknowns table.now answer.old result answer.new }
 {
-    if let Err(refused) = first_refusal(equations, unknowns, table, answer.len()) {
-        return pack(refused.number(), refused.place(), 0, 0, 0, 0);
+    match first_refusal(equations, unknowns, table, answer.len()) {
+        Ok(()) => verdict(&Table::filled(equations, unknowns, table), answer),
+        Err(refused) => pack(refused.number(), refused.place(), 0, 0, 0, 0),
     }
-    verdict(&Table::filled(equations, unknowns, table), answer)
 }
