@@ -1,9 +1,8 @@
 -- Laws of lists as text: a list grows by a byte that splits and a number; and how long it is at most.
 use mathlib.Core.Path.{◌≡◌, refl, ap, sym, ◌∙◌}
 use mathlib.Core.List.{List, [], ◌∷◌, ◌++◌, append_assoc, append-nil}
-use Prim.Native.Nat.{ℕ, suc, ◌+◌, ◌-◌, ◌*◌, ◌≤◌, ◌<◌}
+use Prim.Native.Nat.{ℕ, suc, ◌+◌, ◌≤◌, ◌<◌}
 use native.Mathlib.Omega.{arith}
-use native.Mathlib.Numerals.{add-one}
 use lib.Dec.{eqb, ltb}
 use lib.ListN.{length, get_or, take}
 use lib.Seq.{length-take-le}
@@ -14,10 +13,8 @@ use Rattle.std.proofs.lemmas.List.Recursion.{is_position_or_len}
 use Rattle.laws.specs.Text.{bytes}
 use Rattle.laws.proofs.Tests.{test, tests}
 use Rattle.card.specs.Text.{dec}
-use Rattle.card.specs.Laid.{Laid}
-use Rattle.card.proofs.PutLaws.{laid_then, dec_short}
 use Rattle.analysis.specs.Outcome.{unused}
-use Rattle.report.specs.Printed.{further, joined, commas, split_of, or_none}
+use Rattle.report.specs.Printed.{further, commas, or_none}
 use Rattle.report.specs.Steps.{used_in}
 
 -- ---- one more number

@@ -2,10 +2,9 @@
 use Rattle.std.specs.Prelude.{◌≡◌, List, [], ◌∷◌, ◌++◌, ℕ, ◌*◌, ◌≤◌, eqb, take, drop, replicate}
 use Rattle.laws.specs.Tab.{pick}
 use Rattle.table.specs.Model.{limit}
-use Rattle.card.specs.Text.{LF}
 use Rattle.card.specs.Card.{judged, name_of}
 use Rattle.analysis.specs.Outcome.{code_in, rank_in, index_in, freedom_in, unused, answer_bytes, Reply}
-use Rattle.report.specs.Printed.{field, commas, or_none, blocks_of, solvable_lines, singular_lines, refused_text, Printed}
+use Rattle.report.specs.Printed.{field, solvable_lines, singular_lines, refused_text, Printed}
 use Rattle.report.specs.declared.Findings.{Findings}
 
 -- ---- What the analysis handed back: the bytes of its number (`code_in`, ..), and the strips of its answer
@@ -36,22 +35,6 @@ verdict_text name n number answer = pick (eqb (code_in number) 0) (solvable_text
 -- the rig and the verdict
 abbrev pub head_text : List ℕ → List ℕ → List ℕ
 head_text name verdict = field "rig=" name ++ field "verdict=" verdict
-
--- a key, the used places of a strip or `none`, and the line's end
-abbrev pub left_text : List ℕ → ℕ → List ℕ → List ℕ
-left_text key k answer = key ++ (or_none (used_in (strip_in k limit answer)) ++ LF ∷ [])
-
--- the blocks of n equations
-abbrev pub order_text : ℕ → List ℕ → List ℕ
-order_text n answer = field "blocks=" (blocks_of (strip_in 3 n answer) (strip_in 4 n answer))
-
--- the five strips of a solvable model
-abbrev pub strips_text : ℕ → List ℕ → List ℕ
-strips_text n answer =
-    field "counts=" (commas (strip_in 0 n answer))
-    ++ (field "tops=" (commas (strip_in 1 n answer))
-    ++ (field "pairs=" (commas (strip_in 2 n answer))
-    ++ order_text n answer))
 
 -- the text of what was found
 abbrev pub findings_text : List ℕ → Findings → List ℕ

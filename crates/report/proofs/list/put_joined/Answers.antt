@@ -1,5 +1,4 @@
 -- `list::put_joined`: the first number, then number by number behind what splits it from the one before.
-use Rattle.std.proofs.Common.{rules}
 use native.Mathlib.Omega.{arith}
 use mathlib.Core.Path.{◌≡◌}
 use lib.ListN.{get_or}
