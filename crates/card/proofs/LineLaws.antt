@@ -10,21 +10,16 @@ use lib.Seq.{drop-drop, length-take-le}
 use Rattle.laws.proofs.Tests.{test}
 use Rattle.table.specs.Model.{counted_in}
 use Rattle.card.specs.Text.{LF, rig_key, equations_key, unknowns_key, begins, Lines, none, cut, line, grown, lines_of}
+use Rattle.std.specs.Prelude.{Option, None, Some, Result, Ok, Err}
+use Rattle.std.specs.Option.{ok_or}
+use Rattle.card.specs.Refusal.{refused_at}
+use Rattle.card.specs.declared.refusal.Refusal.TheVariants.{Shape, Name, Limits}
+use Rattle.card.specs.declared.refusal.Refused.{Refused}
 use Rattle.card.specs.Entry.{good_name, value_of, entry_of}
 use Rattle.card.specs.Card.{refused, behind, rig_of, count_said, count_of, turn_said, turn_of, list_of, headed, judged}
 use Rattle.card.specs.Steps.{end_of}
-use Rattle.card.specs.declared.text.Line.{Line}
-use Rattle.card.specs.declared.text.Line.TheVariants.{Unended, Ends}
-use Rattle.card.specs.declared.entry.Value.{Value}
-use Rattle.card.specs.declared.entry.Value.TheVariants.{Other, Says}
-use Rattle.card.specs.declared.judge.Rig.TheVariants.{Unnamed, Named}
-use Rattle.card.specs.declared.judge.Count.TheVariants.{Uncounted, Counts}
-use Rattle.card.specs.declared.list.Turn.TheVariants.{Refused}
 use Rattle.card.proofs.TextLaws.{end_grown}
 use Rattle.card.proofs.EntryLaws.{begins_length}
-
-pub unended : {A : Type 0} {e : ℕ} → Unended ≡ Ends e → A
-unended p = let z : ◌≡◌ {A = ℕ} 0 1 = cc in absurd (omega arith)
 
 -- a line that ends at e and starts at `at`: the first of a text x
 record FirstEnd (x : List ℕ) (at e : ℕ) : Type 0 where
@@ -32,17 +27,17 @@ record FirstEnd (x : List ℕ) (at e : ℕ) : Type 0 where
   room : e - at < length x
   is : lines_of x ≡ line (take (e - at) x) (lines_of (drop (e - at + 1) x))
 
-first : (x : List ℕ) (at e : ℕ) → end_of at (lines_of x) ≡ Ends e → FirstEnd x at e
-first [] at e p = unended p
+first : (x : List ℕ) (at e : ℕ) → end_of at (lines_of x) ≡ Some e → FirstEnd x at e
+first [] at e p = cc
 first (b ∷ x) at e p =
     test (eqb b LF)
     (λ t.
-    let q : Ends (at + 0) ≡ Ends e = rw t at p in
+    let q : Some (at + 0) ≡ Some e = rw t at p in
     let z : at + 0 ≡ e = cc in
     let d : e - at ≡ 0 = omega arith in
     record { from = omega arith; room = omega arith; is = rw (t, d) })
     (λ f.
-    let q : end_of at (grown b (lines_of x)) ≡ Ends e = rw f at p in
+    let q : end_of at (grown b (lines_of x)) ≡ Some e = rw f at p in
     let k = first x (at + 1) e (sym (end_grown b at (lines_of x)) ∙ q) in
     let a : at + 1 ≤ e = k.from in
     let d : e - at ≡ suc (e - (at + 1)) = omega arith in
@@ -56,7 +51,7 @@ pub record LineFound (s : List ℕ) (at e : ℕ) : Type 0 where
   pub is : lines_of (drop at s) ≡ line (take (e - at) (drop at s)) (lines_of (drop (e + 1) s))
   pub long : length (take (e - at) (drop at s)) ≡ e - at
 
-pub found : (s : List ℕ) (at e : ℕ) → end_of at (lines_of (drop at s)) ≡ Ends e → LineFound s at e
+pub found : (s : List ℕ) (at e : ℕ) → end_of at (lines_of (drop at s)) ≡ Some e → LineFound s at e
 found s at e p =
     let k = first (drop at s) at e p in
     let f : at ≤ e = k.from in
@@ -69,23 +64,32 @@ found s at e p =
       long = length-take (e - at) (drop at s) ∙ (rw length-drop (omega arith));
     }
 
+-- what stands in an Option that was asked for
+pub asked : {A : Type 0} (v : Option A) (r : Refused) {q : Result A Refused} {a : A} → q ≡ ok_or v r → q ≡ Ok a → v ≡ Some a
+asked None r b c = cc
+asked (Some f) r b c = cc
+
+pub missed : {A : Type 0} (v : Option A) (r : Refused) {q : Result A Refused} {m : Refused} → q ≡ ok_or v r → q ≡ Err m → (v ≡ None) × (r ≡ m)
+missed None r b c = (refl, cc)
+missed (Some f) r b c = cc
+
 -- ---- a line that is not there, or has no LF
 
 module _ (at : ℕ) where
-  pub rig_none : (ls : Lines) → end_of at ls ≡ Unended → Unnamed 11 ≡ rig_of ls
+  pub rig_none : (ls : Lines) → end_of at ls ≡ None → Err (refused_at Shape 0) ≡ rig_of ls
   rig_none none p = refl
   rig_none (cut l) p = refl
-  rig_none (line l rest) p = unended (sym p)
+  rig_none (line l rest) p = cc
 
-  pub count_none : (key : List ℕ) (ls : Lines) → end_of at ls ≡ Unended → Uncounted 11 ≡ count_of key at ls
+  pub count_none : (key : List ℕ) (ls : Lines) → end_of at ls ≡ None → Err (refused_at Shape at) ≡ count_of key at ls
   count_none key none p = refl
   count_none key (cut l) p = refl
-  count_none key (line l rest) p = unended (sym p)
+  count_none key (line l rest) p = cc
 
-  pub turn_none : (E U e u : ℕ) (ls : Lines) → end_of at ls ≡ Unended → Refused 11 ≡ turn_of E U e u at ls
+  pub turn_none : (E U e u : ℕ) (ls : Lines) → end_of at ls ≡ None → Err (refused_at Shape at) ≡ turn_of E U e u at ls
   turn_none E U e u none p = refl
   turn_none E U e u (cut l) p = refl
-  turn_none E U e u (line l rest) p = unended (sym p)
+  turn_none E U e u (line l rest) p = cc
 
 -- ---- a line that is there
 
@@ -93,10 +97,10 @@ module _ {s : List ℕ} {at e : ℕ} (k : LineFound s at e) where
   next_place : at + length (take (e - at) (drop at s)) + 1 ≡ e + 1
   next_place = let f : at ≤ e = k.from in rw k.long (omega arith)
 
-  pub count_found : (key : List ℕ) → count_said (e + 1) (value_of key (take (e - at) (drop at s))) ≡ count_of key at (lines_of (drop at s))
+  pub count_found : (key : List ℕ) → count_said at (e + 1) (value_of key (take (e - at) (drop at s))) ≡ count_of key at (lines_of (drop at s))
   count_found key = rw (k.is, next_place)
 
-  pub turn_found : (E U e' u' : ℕ) → turn_said E U e' u' (e + 1) (entry_of (take (e - at) (drop at s))) ≡ turn_of E U e' u' at (lines_of (drop at s))
+  pub turn_found : (E U e' u' : ℕ) → turn_said E U e' u' at (e + 1) (entry_of (take (e - at) (drop at s))) ≡ turn_of E U e' u' at (lines_of (drop at s))
   turn_found E U e' u' = rw (k.is, next_place)
 
   pub behind_found : behind (lines_of (drop at s)) ≡ lines_of (drop (e + 1) s)
@@ -111,13 +115,13 @@ module _ (s : List ℕ) {e : ℕ} (k : LineFound s 0 e) where
   rig_long : length (take e s) ≡ e
   rig_long = let h = k.room in length-take-le e s (omega arith)
 
-  pub rig_shape : begins rig_key (take e s) ≡ false → Unnamed 11 ≡ rig_of (lines_of s)
+  pub rig_shape : begins rig_key (take e s) ≡ false → Err (refused_at Shape 0) ≡ rig_of (lines_of s)
   rig_shape h = rw (rig_line, h)
 
-  pub rig_bad : begins rig_key (take e s) ≡ true → good_name (drop (length rig_key) (take e s)) ≡ false → Unnamed 12 ≡ rig_of (lines_of s)
+  pub rig_bad : begins rig_key (take e s) ≡ true → good_name (drop (length rig_key) (take e s)) ≡ false → Err (refused_at Name 0) ≡ rig_of (lines_of s)
   rig_bad h n = rw (rig_line, h, n)
 
-  pub rig_good : begins rig_key (take e s) ≡ true → good_name (drop (length rig_key) (take e s)) ≡ true → Named e ≡ rig_of (lines_of s)
+  pub rig_good : begins rig_key (take e s) ≡ true → good_name (drop (length rig_key) (take e s)) ≡ true → Ok e ≡ rig_of (lines_of s)
   rig_good h n = rw (rig_line, h, n, rig_long)
 
 -- a rig line that was taken
@@ -127,21 +131,17 @@ pub record Rigged (s : List ℕ) (e : ℕ) : Type 0 where
   pub is : lines_of s ≡ line (take e s) (lines_of (drop (e + 1) s))
   pub name : good_name (drop (length rig_key) (take e s)) ≡ true
 
-unnamed : {A : Type 0} {m e : ℕ} → Unnamed m ≡ Named e → A
-unnamed p = let z : ◌≡◌ {A = ℕ} 0 1 = cc in absurd (omega arith)
-
-pub rigged : (s : List ℕ) (e : ℕ) → rig_of (lines_of s) ≡ Named e → Rigged s e
+pub rigged : (s : List ℕ) (e : ℕ) → rig_of (lines_of s) ≡ Ok e → Rigged s e
 rigged s e p = go (end_of 0 (lines_of s)) refl
   where
-    go : (l : Line) → end_of 0 (lines_of s) ≡ l → Rigged s e
-    go Unended q = unnamed (rig_none 0 (lines_of s) q ∙ p)
-    go (Ends f) q =
+    go : (l : Option ℕ) → end_of 0 (lines_of s) ≡ l → Rigged s e
+    go None q = cc (rig_none 0 (lines_of s) q)
+    go (Some f) q =
         let k = found s 0 f q in
         test (begins rig_key (take f s))
         (λ b. test (good_name (drop (length rig_key) (take f s)))
         (λ n.
-        let g : Named f ≡ Named e = rig_good s k b n ∙ p in
-        let z : f ≡ e = cc in
+        let z : f ≡ e = cc (rig_good s k b n) in
         rw (← z)
         (record {
           key = let l = begins_length rig_key (take f s) b in omega (arith, length-take-le f s (let h = k.room in omega arith));
@@ -149,8 +149,8 @@ rigged s e p = go (end_of 0 (lines_of s)) refl
           is = rig_line s k;
           name = n;
         }))
-        (λ n. unnamed (rig_bad s k b n ∙ p)))
-        (λ b. unnamed (rig_shape s k b ∙ p))
+        (λ n. cc (rig_bad s k b n)))
+        (λ b. cc (rig_shape s k b))
 
 -- ---- the count lines
 
@@ -161,52 +161,46 @@ pub record Countable (s : List ℕ) (at n next : ℕ) : Type 0 where
   pub room : next ≤ length s
   pub on : behind (lines_of (drop at s)) ≡ lines_of (drop next s)
 
-uncounted : {A : Type 0} {m n e : ℕ} → Uncounted m ≡ Counts n e → A
-uncounted p = let z : ◌≡◌ {A = ℕ} 0 1 = cc in absurd (omega arith)
+pub ok_pair : {m n a b : ℕ} → ◌≡◌ {A = Result (ℕ × ℕ) Refused} (Ok (m, a)) (Ok (n, b)) → (m ≡ n) × (a ≡ b)
+ok_pair {m} {n} {a} {b} e = let p : ◌≡◌ {A = ℕ × ℕ} (m, a) (n, b) = cc in (ap (λ x. x.0) p, ap (λ x. x.1) p)
 
-pub countable : (s key : List ℕ) (at n next : ℕ) → count_of key at (lines_of (drop at s)) ≡ Counts n next → Countable s at n next
+pub countable : (s key : List ℕ) (at n next : ℕ) → count_of key at (lines_of (drop at s)) ≡ Ok (n, next) → Countable s at n next
 countable s key at n next p = go (end_of at (lines_of (drop at s))) refl
   where
-    said : (e : ℕ) → LineFound s at e → (v : Value) → value_of key (take (e - at) (drop at s)) ≡ v → Countable s at n next
-    said e k Other q = uncounted (ap (count_said (e + 1)) (sym q) ∙ count_found k key ∙ p)
-    said e k (Says m) q =
-        let f : count_said (e + 1) (Says m) ≡ Counts n next = ap (count_said (e + 1)) (sym q) ∙ count_found k key ∙ p in
-        test (counted_in m)
-        (λ t.
-        let g : Counts m (e + 1) ≡ Counts n next = rw t at f in
-        let z : m ≡ n = cc in
-        let y : e + 1 ≡ next = cc in
-        let fr = k.from in
-        let ro = k.room in
-        record { counted = rw z at t; more = omega arith; room = omega arith; on = behind_found k ∙ ap (λ i. lines_of (drop i s)) y })
-        (λ t. let g : Uncounted 13 ≡ Counts n next = rw t at f in uncounted g)
+    said : (e : ℕ) → LineFound s at e → (v : Option ℕ) → value_of key (take (e - at) (drop at s)) ≡ v → Countable s at n next
+    said e k v q = by v (ap (count_said at (e + 1)) (sym q) ∙ count_found k key ∙ p)
+      where
+        by : (v : Option ℕ) → count_said at (e + 1) v ≡ Ok (n, next) → Countable s at n next
+        by None f = cc
+        by (Some m) f =
+            test (counted_in m)
+            (λ t.
+            let (z, y) = ok_pair (rw t at f) in
+            let fr = k.from in
+            let ro = k.room in
+            record { counted = rw z at t; more = omega arith; room = omega arith; on = behind_found k ∙ ap (λ i. lines_of (drop i s)) y })
+            (λ t. let g : Err (refused_at Limits at) ≡ Ok (n, next) = rw t at f in cc)
 
-    go : (l : Line) → end_of at (lines_of (drop at s)) ≡ l → Countable s at n next
-    go Unended q = uncounted (count_none at key (lines_of (drop at s)) q ∙ p)
-    go (Ends e) q = let k = found s at e q in said e k (value_of key (take (e - at) (drop at s))) refl
+    go : (l : Option ℕ) → end_of at (lines_of (drop at s)) ≡ l → Countable s at n next
+    go None q = cc (count_none at key (lines_of (drop at s)) q)
+    go (Some e) q = let k = found s at e q in said e k (value_of key (take (e - at) (drop at s))) refl
 
 -- ---- the first three lines together
 
 module _ (s name : List ℕ) (at : ℕ) where
-  pub counts_one : {m : ℕ} → count_of equations_key at (lines_of (drop at s)) ≡ Uncounted m → headed name at (lines_of (drop at s)) ≡ refused m at
+  pub counts_one : {r : Refused} → count_of equations_key at (lines_of (drop at s)) ≡ Err r → headed name at (lines_of (drop at s)) ≡ refused r
   counts_one p = rw p
 
-  module _ {E next : ℕ} (first : count_of equations_key at (lines_of (drop at s)) ≡ Counts E next) where
-    pub counts_two : {m : ℕ} → count_of unknowns_key next (lines_of (drop next s)) ≡ Uncounted m → headed name at (lines_of (drop at s)) ≡ refused m next
+  module _ {E next : ℕ} (first : count_of equations_key at (lines_of (drop at s)) ≡ Ok (E, next)) where
+    pub counts_two : {r : Refused} → count_of unknowns_key next (lines_of (drop next s)) ≡ Err r → headed name at (lines_of (drop at s)) ≡ refused r
     counts_two p = let k = countable s equations_key at E next first in rw (first, k.on, p)
 
-    pub counts_three : {U from : ℕ} → count_of unknowns_key next (lines_of (drop next s)) ≡ Counts U from
+    pub counts_three : {U from : ℕ} → count_of unknowns_key next (lines_of (drop next s)) ≡ Ok (U, from)
         → headed name at (lines_of (drop at s)) ≡ list_of name E U from (lines_of (drop from s))
     counts_three {U} {from} p = let k = countable s equations_key at E next first in let l = countable s unknowns_key next U from p in rw (first, k.on, p, l.on)
 
-pub rig_on : (s : List ℕ) {e : ℕ} → rig_of (lines_of s) ≡ Named e → judged s ≡ headed (drop (length rig_key) (take e s)) (e + 1) (lines_of (drop (e + 1) s))
+pub rig_on : (s : List ℕ) {e : ℕ} → rig_of (lines_of s) ≡ Ok e → judged s ≡ headed (drop (length rig_key) (take e s)) (e + 1) (lines_of (drop (e + 1) s))
 rig_on s {e} p = let k = rigged s e p in rw (p, k.is)
 
-pub rig_off : (s : List ℕ) {m : ℕ} → rig_of (lines_of s) ≡ Unnamed m → judged s ≡ refused m 0
+pub rig_off : (s : List ℕ) {r : Refused} → rig_of (lines_of s) ≡ Err r → judged s ≡ refused r
 rig_off s p = rw p
-
-pub said_in : (next n : ℕ) → counted_in n ≡ true → Counts n next ≡ count_said next (Says n)
-said_in next n h = rw h
-
-pub said_out : (next n : ℕ) → counted_in n ≡ false → Uncounted 13 ≡ count_said next (Says n)
-said_out next n h = rw h

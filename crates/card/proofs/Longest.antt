@@ -1,4 +1,4 @@
--- The longest card has 14,847 bytes, and every place of a refusal is at most that, whatever the input's length:
+-- The longest card has 14,847 bytes, and list_all place of a refusal is at most that, whatever the input's length:
 -- the lines before a place are those of different pairs, each at most as long as its pair's line can be.
 use mathlib.Core.Path.{◌≡◌, refl, ap, ◌∙◌}
 use mathlib.Core.Bool.{true}
@@ -16,7 +16,7 @@ use Rattle.laws.proofs.Tests.{test, and_left, and_right}
 use Rattle.table.specs.Model.{limit, top_code}
 use Rattle.table.proofs.Model.{limits}
 use Rattle.card.specs.Text.{zeros_of, dec}
-use Rattle.card.specs.Entry.{every}
+use Rattle.std.specs.List.{list_all}
 use Rattle.card.specs.Card.{occurs_line, occurs_lines, occurrences, card_of}
 use Rattle.card.specs.Promise.{WriteGood}
 use Rattle.card.proofs.PutLaws.{dec_short}
@@ -96,12 +96,12 @@ line_weight U c x s =
           (x - 1) (let z = leb-true x top_code s in omega arith),
     )))
 
-lines_weight : (U c : ℕ) (r : List ℕ) → every small r ≡ true → length (occurs_lines U c r) + sum c (weight U) ≤ sum (c + length r) (weight U)
+lines_weight : (U c : ℕ) (r : List ℕ) → list_all small r ≡ true → length (occurs_lines U c r) + sum c (weight U) ≤ sum (c + length r) (weight U)
 lines_weight U c [] h = let z : c + 0 ≡ c = omega arith in rw z (omega arith)
 lines_weight U c (x ∷ r) h =
     let z : c + suc (length r) ≡ c + 1 + length r = omega arith in
-    let k = lines_weight U (c + 1) r (and_right (small x) (every small r) h) in
-    let l = line_weight U c x (and_left (small x) (every small r) h) in
+    let k = lines_weight U (c + 1) r (and_right (small x) (list_all small r) h) in
+    let l = line_weight U c x (and_left (small x) (list_all small r) h) in
     let s : sum (c + 1) (weight U) ≡ weight U c + sum c (weight U) = ap (λ n. sum n (weight U)) (let y : c + 1 ≡ suc c = omega arith in y) in
     rw (z, length-append (occurs_line U c x) (occurs_lines U (c + 1) r)) (omega arith)
 

@@ -9,11 +9,10 @@ use lib.Dec.{ltb, eqb}
 use lib.ListN.{length, drop}
 use borrow.Author.Tests.{eqb-true, eqb-false, lt-ltb, le-ltb, le-leb, ltb-true, ltb-false}
 use Rattle.laws.proofs.Tests.{test, clash, and_left, and_right, and_both}
-use Rattle.card.specs.Text.{is_digit, digits_of, number_of, digit_of, dec}
-use Rattle.card.specs.Entry.{every}
-use Rattle.card.specs.declared.text.Number.TheVariants.{Missing, Is}
+use Rattle.std.specs.Prelude.{None, Some}
+use Rattle.card.specs.Text.{is_digit, number, digits_of, number_of, digit_of, dec}
+use Rattle.std.specs.List.{list_all}
 use Rattle.card.proofs.TextLaws.{digit_low, digit_high}
-use Rattle.card.proofs.EntryLaws.{missing_is}
 
 -- no digit stands in front
 abbrev pub stops : List ℕ → Bool
@@ -28,7 +27,7 @@ value_of v (d ∷ ds) = value_of (v * 10 + (d - 48)) ds
 -- the digits of a number: all are, and only 0 itself begins with a zero
 record Spelling (b : ℕ) (ds : List ℕ) : Type 0 where
   first : is_digit b ≡ true
-  digits : every is_digit ds ≡ true
+  digits : list_all is_digit ds ≡ true
   short : length ds ≤ 3
   lead : b ≡ 48 → length ds ≡ 0
 
@@ -38,26 +37,26 @@ nil_of (d ∷ ds) e = absurd (omega arith)
 
 -- ---- reading digits
 
-digits_stop : (more v took : ℕ) (rest : List ℕ) → stops rest ≡ true → digits_of more v took rest ≡ Is v took
+digits_stop : (more v took : ℕ) (rest : List ℕ) → stops rest ≡ true → digits_of more v took rest ≡ number v took
 digits_stop zero v took rest h = refl
 digits_stop (suc more) v took [] h = refl
 digits_stop (suc more) v took (b ∷ rest) h = test (is_digit b) (λ t. clash {b = not (is_digit b)} h (rw t)) (λ f. rw f)
 
-digits_read : (ds : List ℕ) (more v took : ℕ) (rest : List ℕ) → every is_digit ds ≡ true → length ds ≤ more → stops rest ≡ true
-    → digits_of more v took (ds ++ rest) ≡ Is (value_of v ds) (took + length ds)
+digits_read : (ds : List ℕ) (more v took : ℕ) (rest : List ℕ) → list_all is_digit ds ≡ true → length ds ≤ more → stops rest ≡ true
+    → digits_of more v took (ds ++ rest) ≡ number (value_of v ds) (took + length ds)
 digits_read [] more v took rest e l h = let z : took + 0 ≡ took = omega arith in rw z (digits_stop more v took rest h)
 digits_read (d ∷ ds) zero v took rest e l h = absurd (omega arith)
 digits_read (d ∷ ds) (suc more) v took rest e l h =
     let z : took + suc (length ds) ≡ took + 1 + length ds = omega arith in
-    rw (and_left (is_digit d) (every is_digit ds) e, z) (digits_read ds more (v * 10 + (d - 48)) (took + 1) rest
-    (and_right (is_digit d) (every is_digit ds) e) (omega arith) h)
+    rw (and_left (is_digit d) (list_all is_digit ds) e, z) (digits_read ds more (v * 10 + (d - 48)) (took + 1) rest
+    (and_right (is_digit d) (list_all is_digit ds) e) (omega arith) h)
 
 -- a spelling in front of anything that is no digit is read whole
-spelt_read : (b : ℕ) (ds rest : List ℕ) → Spelling b ds → stops rest ≡ true → number_of (b ∷ ds ++ rest) ≡ Is (value_of (b - 48) ds) (1 + length ds)
+spelt_read : (b : ℕ) (ds rest : List ℕ) → Spelling b ds → stops rest ≡ true → number_of (b ∷ ds ++ rest) ≡ Some (number (value_of (b - 48) ds) (1 + length ds))
 spelt_read b ds rest k h =
     test (eqb b 48)
     (λ t. let n = nil_of ds (k.lead (eqb-true b 48 t)) in let z : b - 48 ≡ 0 = omega (arith, eqb-true b 48 t) in rw (k.first, t, n, z))
-    (λ t. rw (k.first, t) (digits_read ds 3 (b - 48) 1 rest k.digits k.short h))
+    (λ t. rw (k.first, t) (ap Some (digits_read ds 3 (b - 48) 1 rest k.digits k.short h)))
 
 -- what is read as a number is a spelling, and its value
 record Read (s : List ℕ) (v t : ℕ) : Type 0 where
@@ -70,21 +69,21 @@ record Read (s : List ℕ) (v t : ℕ) : Type 0 where
 
 record More (more v took : ℕ) (s : List ℕ) (w t : ℕ) : Type 0 where
   ds : List ℕ
-  digits : every is_digit ds ≡ true
+  digits : list_all is_digit ds ≡ true
   short : length ds ≤ more
   value : w ≡ value_of v ds
   count : t ≡ took + length ds
   is : s ≡ ds ++ drop (length ds) s
 
-is_same : {v t w u : ℕ} → Is v t ≡ Is w u → (v ≡ w) × (t ≡ u)
-is_same e = (cc, cc)
+is_same : {v t w u : ℕ} → number v t ≡ number w u → (v ≡ w) × (t ≡ u)
+is_same e = (ap (λ d. d.value) e, ap (λ d. d.took) e)
 
-none_more : (more v took : ℕ) (s : List ℕ) (w t : ℕ) → Is v took ≡ Is w t → More more v took s w t
+none_more : (more v took : ℕ) (s : List ℕ) (w t : ℕ) → number v took ≡ number w t → More more v took s w t
 none_more more v took s w t e =
     let (p, q) = is_same e in
     record { ds = []; digits = refl; short = omega arith; value = sym p; count = omega arith; is = refl }
 
-digits_back : (more v took : ℕ) (s : List ℕ) (w t : ℕ) → digits_of more v took s ≡ Is w t → More more v took s w t
+digits_back : (more v took : ℕ) (s : List ℕ) (w t : ℕ) → digits_of more v took s ≡ number w t → More more v took s w t
 digits_back zero v took s w t e = none_more zero v took s w t e
 digits_back (suc more) v took [] w t e = none_more (suc more) v took [] w t e
 digits_back (suc more) v took (d ∷ s) w t e =
@@ -96,14 +95,14 @@ digits_back (suc more) v took (d ∷ s) w t e =
     record { ds = d ∷ k.ds; digits = and_both h k.digits; short = omega arith; value = k.value; count = omega arith; is = ap (λ x. d ∷ x) k.is })
     (λ h. none_more (suc more) v took (d ∷ s) w t (rw h at e))
 
-number_back : (s : List ℕ) (v t : ℕ) → number_of s ≡ Is v t → Read s v t
-number_back [] v t e = missing_is e
+number_back : (s : List ℕ) (v t : ℕ) → number_of s ≡ Some (number v t) → Read s v t
+number_back [] v t e = cc
 number_back (b ∷ s) v t e =
     test (is_digit b)
     (λ h. test (eqb b 48)
     (λ z.
-    let f : Is 0 1 ≡ Is v t = rw (h, z) at e in
-    let (p, q) = is_same f in
+    let f : Some (number 0 1) ≡ Some (number v t) = rw (h, z) at e in
+    let (p, q) = is_same {v = 0} {t = 1} {w = v} {u = t} cc in
     let y : b ≡ 48 = eqb-true b 48 z in
     record {
       b = b;
@@ -115,8 +114,8 @@ number_back (b ∷ s) v t e =
       is = rw (← q);
     })
     (λ z.
-    let f : digits_of 3 (b - 48) 1 s ≡ Is v t = rw (h, z) at e in
-    let k = digits_back 3 (b - 48) 1 s v t f in
+    let f : Some (digits_of 3 (b - 48) 1 s) ≡ Some (number v t) = rw (h, z) at e in
+    let k = digits_back 3 (b - 48) 1 s v t cc in
     let y : t ≡ suc (length k.ds) = k.count ∙ omega arith in
     record {
       b = b;
@@ -126,7 +125,7 @@ number_back (b ∷ s) v t e =
       took = k.count;
       is = ap (λ x. b ∷ x) k.is ∙ ap (λ i. b ∷ k.ds ++ drop i (b ∷ s)) (sym y);
     }))
-    (λ h. let f : Missing ≡ Is v t = rw h at e in missing_is f)
+    (λ h. let f : None ≡ Some (number v t) = rw h at e in cc)
 
 -- ---- the digits of a value
 
@@ -170,8 +169,8 @@ spells b (c ∷ []) k =
     record { is = rw (le-ltb v 10 (omega arith), lt-ltb v 100 (omega arith)) (two (omega arith) (omega arith)); small = omega arith }
 spells b (c ∷ d ∷ []) k =
     let l = between b k.first in
-    let m = between c (and_left (is_digit c) (every is_digit (d ∷ [])) k.digits) in
-    let n = between d (and_left (is_digit d) true (and_right (is_digit c) (every is_digit (d ∷ [])) k.digits)) in
+    let m = between c (and_left (is_digit c) (list_all is_digit (d ∷ [])) k.digits) in
+    let n = between d (and_left (is_digit d) true (and_right (is_digit c) (list_all is_digit (d ∷ [])) k.digits)) in
     let h = first_high k (omega arith) in
     let v = ((b - 48) * 10 + (c - 48)) * 10 + (d - 48) in
     record {
@@ -181,10 +180,10 @@ spells b (c ∷ d ∷ []) k =
     }
 spells b (c ∷ d ∷ e ∷ []) k =
     let l = between b k.first in
-    let m = between c (and_left (is_digit c) (every is_digit (d ∷ e ∷ [])) k.digits) in
-    let r = and_right (is_digit c) (every is_digit (d ∷ e ∷ [])) k.digits in
-    let n = between d (and_left (is_digit d) (every is_digit (e ∷ [])) r) in
-    let o = between e (and_left (is_digit e) true (and_right (is_digit d) (every is_digit (e ∷ [])) r)) in
+    let m = between c (and_left (is_digit c) (list_all is_digit (d ∷ e ∷ [])) k.digits) in
+    let r = and_right (is_digit c) (list_all is_digit (d ∷ e ∷ [])) k.digits in
+    let n = between d (and_left (is_digit d) (list_all is_digit (e ∷ [])) r) in
+    let o = between e (and_left (is_digit e) true (and_right (is_digit d) (list_all is_digit (e ∷ [])) r)) in
     let h = first_high k (omega arith) in
     let v = (((b - 48) * 10 + (c - 48)) * 10 + (d - 48)) * 10 + (e - 48) in
     record {
@@ -286,11 +285,11 @@ digits n h =
 -- ---- the two theorems
 
 -- the digits of a number, with no digit behind them, are read as that number
-pub number_dec : (n : ℕ) (rest : List ℕ) → n ≤ 9999 → stops rest ≡ true → number_of (dec n ++ rest) ≡ Is n (length (dec n))
+pub number_dec : (n : ℕ) (rest : List ℕ) → n ≤ 9999 → stops rest ≡ true → number_of (dec n ++ rest) ≡ Some (number n (length (dec n)))
 number_dec n rest h k =
     let d = digits n h in
     ap (λ l. number_of (l ++ rest)) d.is ∙ spelt_read d.b d.ds rest d.spelling k
-    ∙ ap (λ v. Is v (1 + length d.ds)) d.value ∙ ap (Is n) (let z : 1 + length d.ds ≡ suc (length d.ds) = omega arith in z ∙ ap length
+    ∙ ap (λ v. Some (number v (1 + length d.ds))) d.value ∙ ap (λ t. Some (number n t)) (let z : 1 + length d.ds ≡ suc (length d.ds) = omega arith in z ∙ ap length
     (sym d.is))
 
 -- what is read as a number is the digits of a number up to 9999
@@ -299,7 +298,7 @@ pub record Decimal (s : List ℕ) (n t : ℕ) : Type 0 where
   pub is : s ≡ dec n ++ drop t s
   pub took : t ≡ length (dec n)
 
-pub number_is : (s : List ℕ) (n t : ℕ) → number_of s ≡ Is n t → Decimal s n t
+pub number_is : (s : List ℕ) (n t : ℕ) → number_of s ≡ Some (number n t) → Decimal s n t
 number_is s n t e =
     let r = number_back s n t e in
     let k = spells r.b r.ds r.spelling in
@@ -310,6 +309,6 @@ number_is s n t e =
       took = r.took ∙ (let z : 1 + length r.ds ≡ suc (length r.ds) = omega arith in z) ∙ ap length (sym d);
     }
 
--- every byte of it is a digit
-pub dec_digits : (n : ℕ) → n ≤ 9999 → every is_digit (dec n) ≡ true
+-- list_all byte of it is a digit
+pub dec_digits : (n : ℕ) → n ≤ 9999 → list_all is_digit (dec n) ≡ true
 dec_digits n h = let d = digits n h in rw d.is (and_both d.spelling.first d.spelling.digits)

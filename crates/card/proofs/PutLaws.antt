@@ -5,7 +5,7 @@ use Prim.Native.Nat.{ℕ, suc, ◌+◌, ◌-◌, ◌/◌, ◌≤◌, ◌<◌}
 use native.Mathlib.Omega.{arith}
 use native.Mathlib.Numerals.{add-one}
 use lib.ListN.{length, get_or, take, drop, set, length-append, length-drop}
-use lib.Seq.{sets, length-sets, set_out, take-suc, length-take-le, take-length}
+use lib.Seq.{sets, length-sets, set_out, take-suc}
 use borrow.Author.Rules.{part_to_end}
 use lib.Dec.{ltb}
 use Rattle.laws.proofs.Tests.{test}
@@ -33,31 +33,10 @@ laid_then {a} {b} {c} {xs} {ys} {i} {j} {k} p q =
 pub laid_length : {a b xs : List ℕ} {i j : ℕ} → Laid a i xs b j → length b ≡ length a
 laid_length {a} {b} {xs} {i} p = ap length p.list ∙ length-sets a i xs
 
--- a run, byte by byte: what the loop keeps
-pub record Laying (before : List ℕ) (at : ℕ) (bytes now : List ℕ) (i : ℕ) : Type 0 where
-  pub within : i ≤ length bytes
-  pub run : Laid before at (take i bytes) now (at + i)
-
-pub laying_start : (before : List ℕ) (at : ℕ) (bytes : List ℕ) → Laying before at bytes before 0
-laying_start before at bytes = record { within = omega arith; run = record { list = refl; place = refl } }
-
-pub laying_step : {before bytes now after : List ℕ} {at i r : ℕ} → Laying before at bytes now i → i < length bytes
-    → Laid now (at + i) (get_or bytes i 0 ∷ []) after r → Laying before at bytes after (i + 1)
-laying_step {before} {bytes} {now} {after} {at} {i} {r} k h p =
-    let q = laid_then k.run p in
-    record {
-      within = omega arith;
-      run = record {
-        list = q.list ∙ ap (sets before at) (sym (take-suc bytes i 0 h)) ∙ (rw add-one);
-        place = let e : i + 1 ≤ length bytes = omega arith in rw (length-take-le (i + 1) bytes e);
-      };
-    }
-
-pub laying_end : {before bytes now : List ℕ} {at i : ℕ} → Laying before at bytes now i → length bytes ≤ i → Laid before at bytes now (at + i)
-laying_end {before} {bytes} {now} {at} {i} k h =
-    let w = k.within in
-    let e : i ≡ length bytes = omega arith in
-    record { list = k.run.list ∙ rw (e, take-length bytes); place = rw e }
+-- a run, byte by byte
+pub laid_more : (bytes : List ℕ) (i : ℕ) {before now after : List ℕ} {at j k : ℕ} → Laid before at (take i bytes) now j → i < length bytes
+    → Laid now j (get_or bytes i 0 ∷ []) after k → Laid before at (take (i + 1) bytes) after k
+laid_more bytes i p h q = rw (add-one, take-suc bytes i 0 h) (laid_then p q)
 
 -- ---- numbers
 

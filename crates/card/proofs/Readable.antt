@@ -12,25 +12,20 @@ use borrow.Author.Tests.{eq-eqb, ne_eqb, eqb-true, le-leb, leb-false}
 use Rattle.laws.proofs.Tests.{test, either, and_both}
 use Rattle.table.specs.Model.{top_code, counted_in}
 use Rattle.card.specs.Text.{LF, comma, rig_key, equations_key, unknowns_key, occurs_key, end_key, begins, dec, Lines, none, cut, line, lines_of}
-use Rattle.card.specs.Entry.{every, good_name, value_of, entry_of}
-use Rattle.card.specs.Card.{Judged, refused, good, behind, rig_of, count_said, count_of, in_range, not_after, turn_said, cell, finished, from_turn}
+use Rattle.std.specs.List.{list_all}
+use Rattle.card.specs.Entry.{good_name, value_of, entry_of}
+use Rattle.card.specs.Card.{Judged, good, behind, rig_of, count_said, count_of, in_range, not_after, turn_said, cell, finished, from_turn}
 use Rattle.card.specs.Card.{collected, list_of, from_count, headed, from_rig, judged, line_of, occurs_lines, occurrences, card_of}
+use Rattle.std.specs.Prelude.{Option, None, Some, Result, Ok, Err}
+use Rattle.card.specs.declared.refusal.Refused.{Refused}
 use Rattle.card.specs.Promise.{WriteGood, IsCard}
-use Rattle.card.specs.declared.entry.Value.{Value}
-use Rattle.card.specs.declared.entry.Value.TheVariants.{Other, Says}
 use Rattle.card.specs.declared.entry.Entry.{Entry}
-use Rattle.card.specs.declared.entry.Entry.TheVariants.{Shape, Occurs, End}
-use Rattle.card.specs.declared.judge.Rig.{Rig}
-use Rattle.card.specs.declared.judge.Rig.TheVariants.{Unnamed, Named}
-use Rattle.card.specs.declared.judge.Count.{Count}
-use Rattle.card.specs.declared.judge.Count.TheVariants.{Uncounted, Counts}
+use Rattle.card.specs.declared.entry.Entry.TheVariants.{Occurs, End}
 use Rattle.card.proofs.Lines.{every_append, begins_is, value_is, entry_occurs_is, entry_end_is, text_of, text_lines}
 use Rattle.card.proofs.Order.{cells_order, row_of, column_of}
+use Rattle.card.proofs.LineLaws.{ok_pair}
 use Rattle.card.proofs.ListLaws.{Ranged, ranged, cell_within}
 use Rattle.card.proofs.Written.{small, small_codes, rest_of, rest_none, rest_some, regroup}
-
-pub refused_good : {A : Type 0} {m at : ℕ} {name t : List ℕ} {E U : ℕ} → refused m at ≡ good name E U t → A
-refused_good e = let z : ◌≡◌ {A = ℕ} 0 1 = cc in absurd (omega arith)
 
 -- the pair of the last line, 0, 0 where there is none: c is the byte behind it
 pub Reached : ℕ → ℕ → ℕ → ℕ → Type 0
@@ -55,7 +50,7 @@ reached_after E U c e' u' e u k h r p =
 
 -- ---- zeros in a table
 
-zeros_codes : (m : ℕ) → every small (replicate m 0) ≡ true
+zeros_codes : (m : ℕ) → list_all small (replicate m 0) ≡ true
 zeros_codes zero = refl
 zeros_codes (suc m) = zeros_codes m
 
@@ -96,7 +91,7 @@ module _ (name : List ℕ) (E U : ℕ) where
     r : List ℕ
     table : T ≡ p ++ r
     sized : length r ≡ m
-    codes : every small r ≡ true
+    codes : list_all small r ≡ true
     text : text_of ls ≡ rest_of name E U c r (n + occurrences r)
 
   Claim : Lines → Type 0
@@ -104,11 +99,11 @@ module _ (name : List ℕ) (E U : ℕ) where
       → collected name E U n e' u' (p ++ replicate m 0) at ls ≡ good name' E' U' T → Rest p n c m ls name' E' U' T
 
   -- the end line
-  end_rest : (p : List ℕ) (n c m at N : ℕ) (l : List ℕ) (rest : Lines) (name' : List ℕ) (E' U' : ℕ) (T : List ℕ) → entry_of l ≡ End N → N ≡ n
+  end_rest : (p : List ℕ) (n c m at N : ℕ) (l : List ℕ) (rest : Lines) (name' : List ℕ) (E' U' : ℕ) (T : List ℕ) → entry_of l ≡ Some (End N) → N ≡ n
       → finished name E U (p ++ replicate m 0) at rest ≡ good name' E' U' T → Rest p n c m (line l rest) name' E' U' T
   unfolding text_of
-  end_rest p n c m at N l (cut x) name' E' U' T en eq q = refused_good q
-  end_rest p n c m at N l (line x y) name' E' U' T en eq q = refused_good q
+  end_rest p n c m at N l (cut x) name' E' U' T en eq q = cc
+  end_rest p n c m at N l (line x y) name' E' U' T en eq q = cc
   end_rest p n c m at N l none name' E' U' T en eq q =
       let z : N ≡ n + occurrences (replicate m 0) = let o = zeros_none m in omega arith in
       record {
@@ -123,8 +118,7 @@ module _ (name : List ℕ) (E U : ℕ) where
       }
 
   -- an occurs line
-  occurs_rest : (p : List ℕ) (n c m j m' : ℕ) (l : List ℕ) (rest : Lines) (name' : List ℕ) (E' U' : ℕ) (T : List ℕ) {e u k : ℕ} → entry_of l ≡ Occurs
-      e u k → Ranged E U e u k
+  occurs_rest : (p : List ℕ) (n c m j m' : ℕ) (l : List ℕ) (rest : Lines) (name' : List ℕ) (E' U' : ℕ) (T : List ℕ) {e u k : ℕ} → entry_of l ≡ Some (Occurs e u k) → Ranged E U e u k
       → c + j ≡ cell U e u → j + suc m' ≡ m → Rest ((p ++ replicate j 0) ++ (k + 1) ∷ []) (n + 1) (cell U e u + 1) m' rest name' E' U' T
       → Rest p n c m (line l rest) name' E' U' T
   unfolding text_of
@@ -171,17 +165,17 @@ module _ (name : List ℕ) (E U : ℕ) where
       on : ℕ → ℕ → List ℕ → ℕ → Judged
       on e u t next = collected name E U (n + 1) e u t next rest
 
-      go : (en : Entry) → entry_of l ≡ en → from_turn name E U n t at (turn_said E U e' u' next en) rest on ≡ good name' E' U' T → Rest p n c m
+      go : (en : Option Entry) → entry_of l ≡ en → from_turn name E U n t at (turn_said E U e' u' at next en) rest on ≡ good name' E' U' T → Rest p n c m
           (line l rest) name' E' U' T
-      go Shape en q = refused_good q
-      go (End N) en q =
+      go None en q = cc
+      go (Some (End N)) en q =
           test (eqb N n)
           (λ h. end_rest p n c m next N l rest name' E' U' T en (eqb-true N n h) (rw h at q))
-          (λ h. let f : refused 16 at ≡ good name' E' U' T = rw h at q in refused_good f)
-      go (Occurs e u k) en q =
+          (λ h. cc (rw h at q))
+      go (Some (Occurs e u k)) en q =
           test (in_range E U e u k)
           (λ h. test (not_after e u e' u')
-          (λ b. let f : refused 15 at ≡ good name' E' U' T = rw (h, b) at q in refused_good f)
+          (λ b. cc (rw (h, b) at q))
           (λ b.
           let ra = ranged E U e u k h in
           let lo = reached_after E U c e' u' e u k re ra b in
@@ -199,39 +193,32 @@ module _ (name : List ℕ) (E U : ℕ) where
           occurs_rest p n c m j m' l rest name' E' U' T en ra a d
           (ih ((p ++ replicate j 0) ++ (k + 1) ∷ []) (n + 1) e u next (cell U e u + 1) m' name' E' U' T lp' (omega arith) (reached_some E U e u k ra)
           (ap (λ i. collected name E U (n + 1) e u i next rest) (sym s) ∙ f))))
-          (λ h. test (not_after e u e' u') (λ b. refused_good (simp (h, b) at q)) (λ b. refused_good (simp (h, b) at q)))
+          (λ h. test (not_after e u e' u') (λ b. cc (simp (h, b) at q)) (λ b. cc (simp (h, b) at q)))
 
   collected_is : (ls : Lines) → Claim ls
   unfolding Claim
-  collected_is none p n e' u' at c m name' E' U' T lp len re q = refused_good q
-  collected_is (cut l) p n e' u' at c m name' E' U' T lp len re q = refused_good q
+  collected_is none p n e' u' at c m name' E' U' T lp len re q = cc
+  collected_is (cut l) p n e' u' at c m name' E' U' T lp len re q = cc
   collected_is (line l rest) p n e' u' at c m name' E' U' T lp len re q = line_rest l rest (collected_is rest) p n e' u' at c m name' E' U' T lp len re q
 
 -- ---- the first three lines
 
-pub uncounted_counts : {A : Type 0} {m n next : ℕ} → Uncounted m ≡ Counts n next → A
-uncounted_counts q = let z : ◌≡◌ {A = ℕ} 0 1 = cc in absurd (omega arith)
-
-count_is : (key : List ℕ) (at : ℕ) (ls : Lines) (n next : ℕ) → count_of key at ls ≡ Counts n next →
+count_is : (key : List ℕ) (at : ℕ) (ls : Lines) (n next : ℕ) → count_of key at ls ≡ Ok (n, next) →
     (text_of ls ≡ (key ++ dec n) ++ LF ∷ text_of (behind ls)) × (counted_in n ≡ true)
 unfolding text_of
-count_is key at none n next q = uncounted_counts q
-count_is key at (cut l) n next q = uncounted_counts q
+count_is key at none n next q = cc
+count_is key at (cut l) n next q = cc
 count_is key at (line l rest) n next q = go (value_of key l) refl q
   where
-    go : (v : Value) → value_of key l ≡ v → count_said (at + length l + 1) v ≡ Counts n next →
+    go : (v : Option ℕ) → value_of key l ≡ v → count_said at (at + length l + 1) v ≡ Ok (n, next) →
         (l ++ LF ∷ text_of rest ≡ (key ++ dec n) ++ LF ∷ text_of rest) × (counted_in n ≡ true)
-    go Other p q = uncounted_counts q
-    go (Says m) p q =
+    go None p q = cc
+    go (Some m) p q =
         test (counted_in m)
         (λ h.
-        let f : Counts m (at + length l + 1) ≡ Counts n next = rw h at q in
-        let z : m ≡ n = cc in
+        let z : m ≡ n = (ok_pair (rw h at q)).0 in
         (ap (λ x. x ++ LF ∷ text_of rest) ((value_is key l m p).0 ∙ ap (λ i. key ++ dec i) z), rw z at h))
-        (λ h. let f : Uncounted 13 ≡ Counts n next = rw h at q in uncounted_counts f)
-
-pub unnamed_named : {A : Type 0} {m e : ℕ} → Unnamed m ≡ Named e → A
-unnamed_named q = let z : ◌≡◌ {A = ℕ} 0 1 = cc in absurd (omega arith)
+        (λ h. cc (rw h at q))
 
 record RigIs (ls : Lines) (e : ℕ) : Type 0 where
   nm : List ℕ
@@ -239,20 +226,20 @@ record RigIs (ls : Lines) (e : ℕ) : Type 0 where
   long : length (rig_key ++ nm) ≡ e
   text : text_of ls ≡ (rig_key ++ nm) ++ LF ∷ text_of (behind ls)
 
-rig_is : (ls : Lines) (e : ℕ) → rig_of ls ≡ Named e → RigIs ls e
+rig_is : (ls : Lines) (e : ℕ) → rig_of ls ≡ Ok e → RigIs ls e
 unfolding text_of
-rig_is none e q = unnamed_named q
-rig_is (cut l) e q = unnamed_named q
+rig_is none e q = cc
+rig_is (cut l) e q = cc
 rig_is (line l rest) e q =
     test (begins rig_key l)
     (λ b. test (good_name (drop (length rig_key) l))
     (λ g.
-    let f : Named (length l) ≡ Named e = rw (b, g) at q in
+    let f : Ok (length l) ≡ Ok e = rw (b, g) at q in
     let z : length l ≡ e = cc in
     let k = begins_is rig_key l b in
     record { nm = drop (length rig_key) l; fine = g; long = ap length (sym k) ∙ z; text = ap (λ x. x ++ LF ∷ text_of rest) k })
-    (λ g. let f : Unnamed 12 ≡ Named e = rw (b, g) at q in unnamed_named f))
-    (λ b. let f : Unnamed 11 ≡ Named e = rw b at q in unnamed_named f)
+    (λ g. cc (rw (b, g) at q)))
+    (λ b. cc (rw b at q))
 
 -- ---- the theorem
 
@@ -273,7 +260,7 @@ headed_is nm at ls name E U t fine q = first (count_of equations_key at ls) refl
     Goal = (nm ≡ name) × (text_of ls ≡ (equations_key ++ dec E) ++ LF ∷ ((unknowns_key ++ dec U) ++ LF ∷ rest_of name E U 0 t (occurrences t))) ×
         WriteGood name E U t
 
-    both : (E' U' at₂ at₃ : ℕ) → count_of equations_key at ls ≡ Counts E' at₂ → count_of unknowns_key at₂ (behind ls) ≡ Counts U' at₃
+    both : (E' U' at₂ at₃ : ℕ) → count_of equations_key at ls ≡ Ok (E', at₂) → count_of unknowns_key at₂ (behind ls) ≡ Ok (U', at₃)
         → list_of nm E' U' at₃ (behind (behind ls)) ≡ good name E U t → Goal
     both E' U' at₂ at₃ p r q =
         let w = collected_is nm E' U' (behind (behind ls)) [] 0 0 0 at₃ 0 (E' * U') name E U t refl (omega arith) (reached_none U') q in
@@ -299,16 +286,16 @@ headed_is nm at ls name E U t fine q = first (count_of equations_key at ls) refl
           }),
         )
 
-    second : (E' at₂ : ℕ) → count_of equations_key at ls ≡ Counts E' at₂ → (c : Count) → count_of unknowns_key at₂ (behind ls) ≡ c
-        → from_count c at₂ (λ U' at₃. list_of nm E' U' at₃ (behind (behind ls))) ≡ good name E U t → Goal
-    second E' at₂ p (Uncounted m) r q = refused_good q
-    second E' at₂ p (Counts U' at₃) r q = both E' U' at₂ at₃ p r q
+    second : (E' at₂ : ℕ) → count_of equations_key at ls ≡ Ok (E', at₂) → (c : Result (ℕ × ℕ) Refused) → count_of unknowns_key at₂ (behind ls) ≡ c
+        → from_count c (λ U' at₃. list_of nm E' U' at₃ (behind (behind ls))) ≡ good name E U t → Goal
+    second E' at₂ p (Err m) r q = cc
+    second E' at₂ p (Ok (U', at₃)) r q = both E' U' at₂ at₃ p r q
 
-    first : (c : Count) → count_of equations_key at ls ≡ c
-        → from_count c at (λ E' at₂. from_count (count_of unknowns_key at₂ (behind ls)) at₂
+    first : (c : Result (ℕ × ℕ) Refused) → count_of equations_key at ls ≡ c
+        → from_count c (λ E' at₂. from_count (count_of unknowns_key at₂ (behind ls))
         (λ U' at₃. list_of nm E' U' at₃ (behind (behind ls)))) ≡ good name E U t → Goal
-    first (Uncounted m) p q = refused_good q
-    first (Counts E' at₂) p q = second E' at₂ p (count_of unknowns_key at₂ (behind ls)) refl q
+    first (Err m) p q = cc
+    first (Ok (E', at₂)) p q = second E' at₂ p (count_of unknowns_key at₂ (behind ls)) refl q
 
 pub card_text : (name : List ℕ) (E U : ℕ) (t : List ℕ)
     → (rig_key ++ name) ++ LF ∷ ((equations_key ++ dec E) ++ LF ∷ ((unknowns_key ++ dec U) ++ LF ∷ rest_of name E U 0 t (occurrences t))) ≡ card_of name E U t
@@ -320,9 +307,9 @@ card_text name E U t = sym (regroup (rig_key ++ name) (equations_key ++ dec E) (
 pub good_card : (s name : List ℕ) (E U : ℕ) (t : List ℕ) → judged s ≡ good name E U t → IsCard s name E U t
 good_card s name E U t q = go (rig_of (lines_of s)) refl q
   where
-    go : (r : Rig) → rig_of (lines_of s) ≡ r → from_rig s r (lines_of s) ≡ good name E U t → IsCard s name E U t
-    go (Unnamed m) p q = refused_good q
-    go (Named e) p q =
+    go : (r : Result ℕ Refused) → rig_of (lines_of s) ≡ r → from_rig s r (lines_of s) ≡ good name E U t → IsCard s name E U t
+    go (Err m) p q = cc
+    go (Ok e) p q =
         let k = rig_is (lines_of s) e p in
         let x : s ≡ (rig_key ++ k.nm) ++ LF ∷ text_of (behind (lines_of s)) = sym (text_lines s) ∙ k.text in
         let y : drop (length rig_key) (take e s) ≡ k.nm = ap (λ i. drop (length rig_key) (take e i)) x ∙ ap (drop (length rig_key))

@@ -1,24 +1,29 @@
 -- What the promises of `read`, `write` and `name_of` come to: one outcome each, which inputs are good, what succeeds and what a refusal leaves alone,
--- both round trips, and the bounds of every number. Each goes by the cases of `judged`, or by the writer's tests one after another.
+-- both round trips, and the bounds of list_all number. Each goes by the cases of `judged`, or by the writer's tests one after another.
 use mathlib.Core.Path.{◌≡◌, refl, ap, sym, ◌∙◌}
 use mathlib.Core.Bool.{◌&&◌}
 use mathlib.Core.List.{List, ◌++◌}
 use mathlib.Core.Logic.{◌↔◌}
-use Prim.Native.Nat.{ℕ, ◌+◌, ◌*◌, ◌≤◌}
+use Prim.Native.Nat.{ℕ, ◌+◌, ◌*◌, ◌≤◌, ◌<◌}
 use native.Mathlib.Omega.{arith}
 use denote.Ref.{Bor}
 use lib.Dec.{leb, ltb, eqb}
 use lib.ListN.{length, take, drop, length-append}
 use lib.Seq.{take_at}
-use borrow.Author.Tests.{ne_eqb, eqb-true, le-ltb, le-leb, ltb-false, leb-true}
+use borrow.Author.Tests.{eqb-true, le-ltb, le-leb, ltb-false, leb-true}
 use Rattle.laws.proofs.Tests.{test, and_left, and_right}
 use Rattle.table.specs.Model.{limit, in_limits, first_above}
 use Rattle.table.proofs.Model.{limits, above_most}
-use Rattle.card.specs.Entry.{name_byte, every, good_name}
+use Rattle.std.specs.List.{list_all}
+use Rattle.card.specs.Entry.{name_byte, good_name}
 use Rattle.card.specs.Card.{Judged, refused, good, judged, read_of, table_of, name_of, name_at, card_of, wrote_none, card_after}
+use Rattle.std.specs.Prelude.{Result, Ok, Err}
+use Rattle.card.specs.Refusal.{refusal_number, refused_at, number_in, place_in, equations_in, unknowns_in, length_in}
+use Rattle.card.specs.declared.refusal.Refusal.{Refusal}
+use Rattle.card.specs.declared.refusal.Refusal.TheVariants.{Shape, Name, Limits, OutOfRange, NotAfter, EndNumber, TableRoom, CardRoom, TableLength, Code}
+use Rattle.card.specs.declared.refusal.Refused.{Refused}
+use Rattle.card.specs.declared.Size.{Size}
 use Rattle.card.specs.Promise.{WriteGood, IsCard, ReadDone, NamePart, WriteDone}
-use Rattle.card.specs.declared.Reading.{Reading}
-use Rattle.card.specs.declared.Writing.{Writing}
 use Rattle.card.proofs.ListLaws.{cells_within}
 use Rattle.card.proofs.Written.{written_good}
 use Rattle.card.proofs.Readable.{card_text, good_card}
@@ -27,10 +32,10 @@ use Rattle.card.proofs.Places.{places}
 
 -- ---- one outcome each
 
-pub read_one : {s before after after' : List ℕ} {r r' : Reading} → ReadDone s before r after → ReadDone s before r' after' → (r ≡ r') × (after ≡ after')
+pub read_one : {s before after after' : List ℕ} {r r' : Result Size Refused} → ReadDone s before r after → ReadDone s before r' after' → (r ≡ r') × (after ≡ after')
 read_one k l = (k.answer ∙ sym l.answer, k.bytes ∙ sym l.bytes)
 
-pub write_one : {name t before after after' : List ℕ} {E U : ℕ} {r r' : Writing} → WriteDone name E U t before r after → WriteDone name E U t before
+pub write_one : {name t before after after' : List ℕ} {E U : ℕ} {r r' : Result ℕ Refused} → WriteDone name E U t before r after → WriteDone name E U t before
     r' after' → (r ≡ r') × (after ≡ after')
 write_one {name} {t} {before} {after} {after'} {E} {U} k l =
     let e = k.answer ∙ sym l.answer in
@@ -57,88 +62,96 @@ pub record Says (s : List ℕ) : Type 0 where
 
 -- ---- reading
 
--- a good card with room for its table is read: 0 and 0, its E and U, and its codes in front of what stood behind them
-pub read_succeeds : {s name t before after : List ℕ} {E U : ℕ} {r : Reading} → IsCard s name E U t → E * U ≤ length before → ReadDone s before r after
-    → (r ≡ record { number = 0; place = 0; equations = E; unknowns = U }) × (after ≡ t ++ drop (E * U) before)
+-- a good card with room for its table is read: its E and U, and its codes in front of what stood behind them
+pub read_succeeds : {s name t before after : List ℕ} {E U : ℕ} {r : Result Size Refused} → IsCard s name E U t → E * U ≤ length before → ReadDone s before r after
+    → (r ≡ Ok (record { equations = E; unknowns = U })) × (after ≡ t ++ drop (E * U) before)
 read_succeeds {s} {name} {t} {before} {after} {E} {U} i h k =
     let j = (good_exactly s name E U t).1 i in
     let l = le-ltb (length before) (E * U) h in
     (k.answer ∙ rw (j, l), k.bytes ∙ rw (j, l))
 
 -- number 0: the card is good, there is room, and these are the answer and the bytes
-pub record ReadGood (s before : List ℕ) (r : Reading) (after : List ℕ) : Type 0 where
+pub record ReadGood (s before : List ℕ) (r : Result Size Refused) (after : List ℕ) : Type 0 where
   pub says : Says s
   pub card : IsCard s says.name says.E says.U says.t
-  pub equations : r.equations ≡ says.E
-  pub unknowns : r.unknowns ≡ says.U
+  pub equations : equations_in r ≡ says.E
+  pub unknowns : unknowns_in r ≡ says.U
   pub room : says.E * says.U ≤ length before
   pub bytes : after ≡ says.t ++ drop (says.E * says.U) before
   pub sized : length says.t ≡ says.E * says.U
 
-seventeen : {A : Type 0} {n : ℕ} → n ≡ 17 → n ≡ 0 → A
-seventeen a b = absurd (omega arith)
+-- a refusal has no number 0
+pub some_number : (m : Refusal) → 0 < refusal_number m
+some_number TableLength = omega arith
+some_number Code = omega arith
+some_number Shape = omega arith
+some_number Name = omega arith
+some_number Limits = omega arith
+some_number OutOfRange = omega arith
+some_number NotAfter = omega arith
+some_number EndNumber = omega arith
+some_number TableRoom = omega arith
+some_number CardRoom = omega arith
 
-pub read_good : {s before after : List ℕ} {r : Reading} → ReadDone s before r after → r.number ≡ 0 → ReadGood s before r after
+pub read_good : {s before after : List ℕ} {r : Result Size Refused} → ReadDone s before r after → number_in r ≡ 0 → ReadGood s before r after
 read_good {s} {before} {after} {r} k z = go (judged s) refl
   where
     go : (j : Judged) → judged s ≡ j → ReadGood s before r after
-    go (refused m at) p =
-        let a : r ≡ read_of (length before) (refused m at) = k.answer ∙ ap (read_of (length before)) p in
-        let b : r.number ≡ m = ap (λ x. x.number) a in
-        let l = places s m at p in
-        absurd (omega (arith, l.from))
+    go (refused m) p =
+        let a : r ≡ Err m = k.answer ∙ ap (read_of (length before)) p in
+        let b : number_in r ≡ refusal_number m.refusal = ap number_in a in
+        absurd (omega (arith, some_number m.refusal))
     go (good name E U t) p =
         let a : r ≡ read_of (length before) (good name E U t) = k.answer ∙ ap (read_of (length before)) p in
         let i = good_card s name E U t p in
         test (ltb (length before) (E * U))
-        (λ h. let d : r ≡ record { number = 17; place = 0; equations = 0; unknowns = 0 } = rw h at a in seventeen (ap (λ x. x.number) d) z)
+        (λ h. let d : number_in r ≡ 17 = ap number_in (rw h at a) in absurd (omega arith))
         (λ h.
         let room = ltb-false (length before) (E * U) h in
         let (d, b) = read_succeeds i room k in
         record {
           says = record { name = name; E = E; U = U; t = t; is = p };
           card = i;
-          equations = ap (λ x. x.equations) d;
-          unknowns = ap (λ x. x.unknowns) d;
+          equations = ap equations_in d;
+          unknowns = ap unknowns_in d;
           room = room;
           bytes = b;
           sized = eqb-true (length t) (E * U) i.fine.sized;
         })
 
 -- any other number: no table byte has changed, and E and U are 0
-pub read_refused : {s before after : List ℕ} {r : Reading} → ReadDone s before r after → (r.number ≡ 0 → ⊥) → (after ≡ before) × (r.equations ≡ 0)
-    × (r.unknowns ≡ 0)
+pub read_refused : {s before after : List ℕ} {r : Result Size Refused} → ReadDone s before r after → (number_in r ≡ 0 → ⊥)
+    → (after ≡ before) × (equations_in r ≡ 0) × (unknowns_in r ≡ 0)
 read_refused {s} {before} {after} {r} k n = go (judged s) refl
   where
-    go : (j : Judged) → judged s ≡ j → (after ≡ before) × (r.equations ≡ 0) × (r.unknowns ≡ 0)
-    go (refused m at) p =
-        let a : r ≡ read_of (length before) (refused m at) = k.answer ∙ ap (read_of (length before)) p in
-        (k.bytes ∙ ap (table_of before) p, ap (λ x. x.equations) a, ap (λ x. x.unknowns) a)
+    go : (j : Judged) → judged s ≡ j → (after ≡ before) × (equations_in r ≡ 0) × (unknowns_in r ≡ 0)
+    go (refused m) p =
+        let a : r ≡ Err m = k.answer ∙ ap (read_of (length before)) p in
+        (k.bytes ∙ ap (table_of before) p, ap equations_in a, ap unknowns_in a)
     go (good name E U t) p =
         let a : r ≡ read_of (length before) (good name E U t) = k.answer ∙ ap (read_of (length before)) p in
         let c : after ≡ table_of before (good name E U t) = k.bytes ∙ ap (table_of before) p in
         test (ltb (length before) (E * U))
-        (λ h. let d : r ≡ record { number = 17; place = 0; equations = 0; unknowns = 0 } = rw h at a in
-        (rw h at c, ap (λ x. x.equations) d, ap (λ x. x.unknowns) d))
-        (λ h. let d : r ≡ record { number = 0; place = 0; equations = E; unknowns = U } = rw h at a in absurd (n (ap (λ x. x.number) d)))
+        (λ h. let d : r ≡ Err (refused_at TableRoom 0) = rw h at a in (rw h at c, ap equations_in d, ap unknowns_in d))
+        (λ h. let d : r ≡ Ok (record { equations = E; unknowns = U }) = rw h at a in absurd (n (ap number_in d)))
 
 -- the bounds by which every answer fits what is printed and packed; a place is at most the input's length, too
-pub record ReadFits (s : List ℕ) (r : Reading) : Type 0 where
-  pub number : r.number ≤ 17
-  pub place : r.place ≤ longest
-  pub within : r.place ≤ length s
-  pub equations : r.equations ≤ limit
-  pub unknowns : r.unknowns ≤ limit
+pub record ReadFits (s : List ℕ) (r : Result Size Refused) : Type 0 where
+  pub number : number_in r ≤ 17
+  pub place : place_in r ≤ longest
+  pub within : place_in r ≤ length s
+  pub equations : equations_in r ≤ limit
+  pub unknowns : unknowns_in r ≤ limit
 
-pub read_fits : {s before after : List ℕ} {r : Reading} → ReadDone s before r after → ReadFits s r
+pub read_fits : {s before after : List ℕ} {r : Result Size Refused} → ReadDone s before r after → ReadFits s r
 read_fits {s} {before} {after} {r} k = go (judged s) refl
   where
-    at_most : {x : Reading} → r ≡ x → ReadFits s x → ReadFits s r
+    at_most : {x : Result Size Refused} → r ≡ x → ReadFits s x → ReadFits s r
     at_most e f = rw e f
 
     go : (j : Judged) → judged s ≡ j → ReadFits s r
-    go (refused m at) p =
-        let l = places s m at p in
+    go (refused m) p =
+        let l = places s m p in
         at_most (k.answer ∙ ap (read_of (length before)) p) (record
         { number = let h = l.to in omega arith; place = l.place; within = l.within; equations = omega arith; unknowns = omega arith })
     go (good name E U t) p =
@@ -151,26 +164,30 @@ read_fits {s} {before} {after} {r} k = go (judged s) refl
 
 -- ---- writing
 
--- a good name and table with room for their card are written: 0 and 0, the card's length, and the card in front of what stood behind it
-pub write_succeeds : {name t before after : List ℕ} {E U : ℕ} {r : Writing} → WriteGood name E U t → length (card_of name E U t) ≤ length before
+-- a good name and table with room for their card are written: the card's length, and the card in front of what stood behind it
+pub write_succeeds : {name t before after : List ℕ} {E U : ℕ} {r : Result ℕ Refused} → WriteGood name E U t → length (card_of name E U t) ≤ length before
     → WriteDone name E U t before r after
-    → (r ≡ record { number = 0; place = 0; length = length (card_of name E U t) }) × (after ≡ card_of name E U t ++ drop (length (card_of name E U t)) before)
+    → (r ≡ Ok (length (card_of name E U t))) × (after ≡ card_of name E U t ++ drop (length (card_of name E U t)) before)
 write_succeeds {name} {t} {before} {after} {E} {U} {r} g h k =
-    let e : r ≡ record { number = 0; place = 0; length = length (card_of name E U t) }
+    let e : r ≡ Ok (length (card_of name E U t))
     = k.answer ∙ rw (g.named, g.limits, g.sized, g.codes, le-leb (length (card_of name E U t)) (length before) h) in
     (e, k.bytes ∙ ap (λ x. card_after before x (card_of name E U t)) e)
 
 -- any other number: no card byte has changed
-pub write_refused : {name t before after : List ℕ} {E U : ℕ} {r : Writing} → WriteDone name E U t before r after → (r.number ≡ 0 → ⊥) → after ≡ before
-write_refused {name} {t} {before} {after} {E} {U} {r} k n = k.bytes ∙ rw (ne_eqb r.number 0 n)
+pub write_refused : {name t before after : List ℕ} {E U : ℕ} {r : Result ℕ Refused} → WriteDone name E U t before r after → (number_in r ≡ 0 → ⊥) → after ≡ before
+write_refused {name} {t} {before} {after} {E} {U} {r} k n = k.bytes ∙ go r n
+  where
+    go : (r : Result ℕ Refused) → (number_in r ≡ 0 → ⊥) → card_after before r (card_of name E U t) ≡ before
+    go (Ok m) n = absurd (n refl)
+    go (Err m) n = refl
 
 -- the bounds by which every answer of the writer fits what is printed and packed
-pub record WriteFits (r : Writing) : Type 0 where
-  pub number : r.number ≤ 18
-  pub place : r.place ≤ longest
-  pub length_fits : r.length ≤ longest
+pub record WriteFits (r : Result ℕ Refused) : Type 0 where
+  pub number : number_in r ≤ 18
+  pub place : place_in r ≤ longest
+  pub length_fits : length_in r ≤ longest
 
-pub write_fits : {name t before after : List ℕ} {E U : ℕ} {r : Writing} → WriteDone name E U t before r after → WriteFits r
+pub write_fits : {name t before after : List ℕ} {E U : ℕ} {r : Result ℕ Refused} → WriteDone name E U t before r after → WriteFits r
 write_fits {name} {t} {before} {after} {E} {U} {r} k =
     test (good_name name)
     (λ a. test (in_limits E U)
@@ -186,10 +203,10 @@ write_fits {name} {t} {before} {after} {E} {U} {r} k =
     (λ b. none_fits (rw (a, b) at k.answer) (omega arith) (omega arith)))
     (λ a. none_fits (rw a at k.answer) (omega arith) (omega arith))
   where
-    at_most : {x : Writing} → r ≡ x → WriteFits x → WriteFits r
+    at_most : {x : Result ℕ Refused} → r ≡ x → WriteFits x → WriteFits r
     at_most e f = rw e f
 
-    none_fits : {m at : ℕ} → r ≡ wrote_none m at → m ≤ 18 → at ≤ longest → WriteFits r
+    none_fits : {m : Refusal} {at : ℕ} → r ≡ wrote_none m at → refusal_number m ≤ 18 → at ≤ longest → WriteFits r
     none_fits e f g = at_most e (record { number = f; place = g; length_fits = omega arith })
 
 -- ---- the name question
@@ -199,14 +216,14 @@ pub name_length : (s name : List ℕ) (E U : ℕ) (t : List ℕ) → judged s �
 name_length s name E U t p =
     let l = leb 1 (length name) in
     let h = leb (length name) 24 in
-    let b = and_left (l && h) (every name_byte name) (good_card s name E U t p).fine.named in
+    let b = and_left (l && h) (list_all name_byte name) (good_card s name E U t p).fine.named in
     (leb-true 1 (length name) (and_left l h b), leb-true (length name) 24 (and_right l h b))
 
 pub name_fits : (s : List ℕ) → length (name_of (judged s)) ≤ 24
 name_fits s = go (judged s) refl
   where
     go : (j : Judged) → judged s ≡ j → length (name_of j) ≤ 24
-    go (refused m at) p = omega arith
+    go (refused m) p = omega arith
     go (good name E U t) p = (name_length s name E U t p).1
 
 -- what it gives are the bytes that stand in the card at the part's place
@@ -218,7 +235,7 @@ pub name_lies : (s : List ℕ) → NameLies s
 name_lies s = go (judged s) refl
   where
     go : (j : Judged) → judged s ≡ j → NameLies s
-    go (refused m at) p = record { within = rw p (omega arith); bytes = rw p }
+    go (refused m) p = record { within = rw p (omega arith); bytes = rw p }
     go (good name E U t) p =
         let e = (good_card s name E U t p).bytes ∙ sym (card_text name E U t) in
         record {
@@ -232,7 +249,7 @@ name_succeeds {card} {part} {name} {t} {E} {U} i k = k.bytes ∙ ap name_of ((go
 
 -- ---- there and back
 
-moved : {name name' t t' before after : List ℕ} {E E' U U' : ℕ} {w : Writing} → name' ≡ name → E' ≡ E → U' ≡ U → t' ≡ t → WriteDone name' E' U' t'
+moved : {name name' t t' before after : List ℕ} {E E' U U' : ℕ} {w : Result ℕ Refused} → name' ≡ name → E' ≡ E → U' ≡ U → t' ≡ t → WriteDone name' E' U' t'
     before w after → WriteDone name E U t before w after
 moved a b c d k = rw (a, b, c, d) at k
 
@@ -244,20 +261,20 @@ pub record CardAgain (s before : List ℕ) (read written long : ℕ) (after : Li
   pub same_bytes : after ≡ s ++ drop (length s) before
 
 -- with room enough, a good card read and written again has the same bytes
-pub card_again : {card part : Bor (List ℕ)} {name t table table' before after : List ℕ} {E U : ℕ} {r : Reading} {w : Writing}
+pub card_again : {card part : Bor (List ℕ)} {name t table table' before after : List ℕ} {E U : ℕ} {r : Result Size Refused} {w : Result ℕ Refused}
     → IsCard card.now name E U t → E * U ≤ length table → length card.now ≤ length before
     → ReadDone card.now table r table' → NamePart card part
-    → WriteDone part.now r.equations r.unknowns (take (r.equations * r.unknowns) table') before w after
-    → CardAgain card.now before r.number w.number w.length after
+    → WriteDone part.now (equations_in r) (unknowns_in r) (take (equations_in r * unknowns_in r) table') before w after
+    → CardAgain card.now before (number_in r) (number_in w) (length_in w) after
 card_again {card} {part} {name} {t} {table} {table'} {before} {after} {E} {U} {r} {w} i h h' k n l =
     let (a, b) = read_succeeds i h k in
-    let c : take (r.equations * r.unknowns) table' ≡ t = rw (a, b) (take_at t (drop (E * U) table) (E * U) (eqb-true (length t) (E * U) i.fine.sized)) in
-    let v = moved (name_succeeds i n) (ap (λ x. x.equations) a) (ap (λ x. x.unknowns) a) c l in
+    let c : take (equations_in r * unknowns_in r) table' ≡ t = rw (a, b) (take_at t (drop (E * U) table) (E * U) (eqb-true (length t) (E * U) i.fine.sized)) in
+    let v = moved (name_succeeds i n) (ap equations_in a) (ap unknowns_in a) c l in
     let (d, e) = write_succeeds i.fine (rw i.bytes at h') v in
     record {
-      good_read = ap (λ x. x.number) a;
-      good_written = ap (λ x. x.number) d;
-      same_length = rw i.bytes (ap (λ x. x.length) d);
+      good_read = ap number_in a;
+      good_written = ap number_in d;
+      same_length = rw i.bytes (ap length_in d);
       same_bytes = rw i.bytes e;
     }
 
@@ -272,20 +289,20 @@ pub record TableAgain (name : List ℕ) (E U : ℕ) (t table : List ℕ) (writte
   pub same_name : part ≡ name
 
 -- with room enough, a good table and name written and read again come back the same
-pub table_again : {card part : Bor (List ℕ)} {name t table table' before after : List ℕ} {E U : ℕ} {r : Reading} {w : Writing}
+pub table_again : {card part : Bor (List ℕ)} {name t table table' before after : List ℕ} {E U : ℕ} {r : Result Size Refused} {w : Result ℕ Refused}
     → WriteGood name E U t → length (card_of name E U t) ≤ length before → E * U ≤ length table
-    → WriteDone name E U t before w after → card.now ≡ take w.length after → ReadDone card.now table r table' → NamePart card part
-    → TableAgain name E U t table w.number r.number r.equations r.unknowns table' part.now
+    → WriteDone name E U t before w after → card.now ≡ take (length_in w) after → ReadDone card.now table r table' → NamePart card part
+    → TableAgain name E U t table (number_in w) (number_in r) (equations_in r) (unknowns_in r) table' part.now
 table_again {card} {part} {name} {t} {table} {table'} {before} {after} {E} {U} {r} {w} g h h' k e l n =
     let (a, b) = write_succeeds g h k in
     let c = card_of name E U t in
     let i : IsCard card.now name E U t = record { bytes = e ∙ rw (a, b) (take_at c (drop (length c) before) (length c) refl); fine = g } in
     let (d, f) = read_succeeds i h' l in
     record {
-      good_written = ap (λ x. x.number) a;
-      good_read = ap (λ x. x.number) d;
-      same_E = ap (λ x. x.equations) d;
-      same_U = ap (λ x. x.unknowns) d;
+      good_written = ap number_in a;
+      good_read = ap number_in d;
+      same_E = ap equations_in d;
+      same_U = ap unknowns_in d;
       same_codes = f;
       same_name = name_succeeds i n;
     }

@@ -1,24 +1,27 @@
 -- Laws of the written card: its lines laid one behind another, and how long each is.
 use mathlib.Core.Path.{◌≡◌, refl, ap, sym, ◌∙◌}
-use mathlib.Core.Bool.{true, false, ◌&&◌}
+use mathlib.Core.Bool.{not, ◌&&◌}
 use mathlib.Core.List.{List, [], ◌∷◌, ◌++◌, append_assoc, append-nil}
 use Prim.Native.Nat.{ℕ, suc, ◌+◌, ◌-◌, ◌*◌, ◌/◌, ◌%◌, ◌≤◌, ◌<◌}
 use native.Mathlib.Nat.{mul-le-mul_right}
 use native.Mathlib.Omega.{arith}
 use native.Mathlib.Numerals.{add-one}
 use lib.Dec.{eqb, leb}
-use lib.ListN.{length, get_or, take, drop, length-append, drop_of_length-le}
-use lib.Seq.{sets, sets-eq, take-suc, length-take-le, take-length, drop-cons}
-use borrow.Author.Tests.{eq-eqb, ne_eqb, le-leb, lt-leb, leb-true, eqb-true}
+use lib.ListN.{length, get_or, take, length-append, length-take}
+use lib.Seq.{sets, sets-eq, take-suc, length-take-le}
+use borrow.Author.Tests.{le-leb, leb-true, eqb-true}
+use Rattle.std.specs.List.{count_by}
+use Rattle.std.proofs.lemmas.List.Recursion.{is_count_by}
 use Rattle.laws.proofs.Tests.{test, and_left, and_right}
-use Rattle.table.specs.Model.{limit, in_limits, well_sized, first_above}
+use Rattle.table.specs.Model.{limit}
 use Rattle.table.proofs.Model.{limits}
 use Rattle.card.specs.Text.{LF, comma, rig_key, equations_key, unknowns_key, occurs_key, end_key, dec}
-use Rattle.card.specs.Entry.{name_byte, every, good_name}
-use Rattle.card.specs.Card.{line_of, occurs_line, occurs_lines, occurrences, card_of, wrote_none}
+use Rattle.std.specs.List.{list_all}
+use Rattle.card.specs.Entry.{name_byte}
+use Rattle.card.specs.Card.{line_of, occurs_line, occurs_lines, occurrences, card_of}
+use Rattle.std.specs.Prelude.{Ok}
 use Rattle.card.specs.Promise.{WriteGood, WriteDone}
 use Rattle.card.specs.Laid.{Laid}
-use Rattle.card.specs.declared.Writing.{Writing}
 use Rattle.card.proofs.PutLaws.{laid_then, dec_short}
 
 pub laid_same : {a b xs ys : List ℕ} {i j : ℕ} → xs ≡ ys → Laid a i xs b j → Laid a i ys b j
@@ -28,14 +31,6 @@ laid_same e k = rw e at k
 pub occurs_parts : (e u k : ℕ)
     → (((occurs_key ++ (dec e ++ comma ∷ [])) ++ (dec u ++ comma ∷ [])) ++ dec k) ++ LF ∷ [] ≡ line_of (occurs_key ++ dec e ++ comma ∷ dec u ++ comma ∷ dec k)
 occurs_parts e u k = simp append_assoc
-
--- a code 0 has no line
-pub cell_none : (l : List ℕ) (at U cell code : ℕ) → code ≡ 0 → Laid l at (occurs_line U cell code) l at
-cell_none l at U cell code h = rw (eq-eqb code 0 h) (record { list = refl; place = omega arith })
-
-pub cell_line : (U cell code e u k : ℕ) → (code ≡ 0 → ⊥) → e ≡ cell / U + 1 → u ≡ cell % U + 1 → k ≡ code - 1
-    → line_of (occurs_key ++ dec e ++ comma ∷ dec u ++ comma ∷ dec k) ≡ occurs_line U cell code
-cell_line U cell code e u k h p q r = rw (ne_eqb code 0 h, p, q, r)
 
 -- an occurs line is ten bytes longer than its three numbers
 pub occurs_length : (e u k : ℕ) → length (line_of (occurs_key ++ dec e ++ comma ∷ dec u ++ comma ∷ dec k)) ≡ length (dec e) + length (dec u) + length (dec k) + 10
@@ -53,6 +48,11 @@ line_short U cell code =
       dec_short
           (code - 1),
     )))
+
+-- the occurs lines are at most this long
+pub lines_short : (U at : ℕ) (t : List ℕ) → length (occurs_lines U at t) ≤ 22 * length t
+lines_short U at [] = omega arith
+lines_short U at (x ∷ t) = rw (length-append (occurs_line U at x) (occurs_lines U (at + 1) t)) (omega (arith, line_short U at x, lines_short U (at + 1) t))
 
 -- the lines of one list behind those of another
 pub lines_append : (U at : ℕ) (xs ys : List ℕ) → occurs_lines U at (xs ++ ys) ≡ occurs_lines U at xs ++ occurs_lines U (at + length xs) ys
@@ -72,60 +72,18 @@ lines_step U t cell h =
     ∙ ap (λ n. occurs_lines U 0 (take cell t) ++ occurs_lines U n (x ∷ [])) z
     ∙ ap (λ l. occurs_lines U 0 (take cell t) ++ l) (append-nil (occurs_line U cell x)))
 
--- what the loop over the table keeps
-pub record Celling (before : List ℕ) (at U : ℕ) (t now : List ℕ) (next cell : ℕ) : Type 0 where
-  pub within : cell ≤ length t
-  pub near : next ≤ at + 22 * cell
-  pub run : Laid before at (occurs_lines U 0 (take cell t)) now next
+pub laid_line : (U : ℕ) (t : List ℕ) (cell : ℕ) {before now after : List ℕ} {at j k : ℕ} → Laid before at (occurs_lines U 0 (take cell t)) now j → cell < length t
+    → Laid now j (occurs_line U cell (get_or t cell 0)) after k → Laid before at (occurs_lines U 0 (take (cell + 1) t)) after k
+laid_line U t cell p h q = laid_same (lines_step U t cell h) (laid_then p q)
 
-pub celling_start : (before : List ℕ) (at U : ℕ) (t : List ℕ) → Celling before at U t before at 0
-celling_start before at U t = record { within = omega arith; near = omega arith; run = record { list = refl; place = omega arith } }
+-- the occurs lines so far are at most this long
+pub lines_near : (U : ℕ) (t : List ℕ) (cell : ℕ) → length (occurs_lines U 0 (take cell t)) ≤ 22 * cell
+lines_near U t cell = omega (arith, lines_short U 0 (take cell t), length-take cell t)
 
-pub celling_step : {before t now after : List ℕ} {at U next cell r : ℕ} → Celling before at U t now next cell → cell < length t
-    → Laid now next (occurs_line U cell (get_or t cell 0)) after r → Celling before at U t after r (cell + 1)
-celling_step {before} {t} {now} {after} {at} {U} {next} {cell} {r} k h p =
-    let w = k.near in
-    record {
-      within = omega arith;
-      near = omega (arith, p.place, line_short U cell (get_or t cell 0));
-      run = laid_same (lines_step U t cell h) (laid_then k.run p);
-    }
-
-pub celling_end : {before t now : List ℕ} {at U next cell : ℕ} → Celling before at U t now next cell → length t ≤ cell → Laid before at
-    (occurs_lines U 0 t) now next
-celling_end {before} {t} {now} {at} {U} {next} {cell} k h =
-    let w = k.within in
-    let e : cell ≡ length t = omega arith in
-    laid_same (rw (e, take-length t)) k.run
-
--- ---- how many occur: what the loop that counts keeps
-
-pub record CountingCodes (t : List ℕ) (count cell : ℕ) : Type 0 where
-  pub within : cell ≤ length t
-  pub few : count ≤ cell
-  pub same : occurrences t ≡ count + occurrences (drop cell t)
-
-pub counting_start : (t : List ℕ) → CountingCodes t 0 0
-counting_start t = record { within = omega arith; few = omega arith; same = omega arith }
-
-module _ {t : List ℕ} {count cell : ℕ} (k : CountingCodes t count cell) (h : cell < length t) where
-  here : drop cell t ≡ get_or t cell 0 ∷ drop (cell + 1) t
-  here = rw add-one (drop-cons t cell 0 h)
-
-  pub counting_more : (get_or t cell 0 ≡ 0 → ⊥) → CountingCodes t (count + 1) (cell + 1)
-  counting_more n =
-      let f = k.few in
-      let e : occurrences (drop cell t) ≡ occurrences (drop (cell + 1) t) + 1 = rw (here, ne_eqb (get_or t cell 0) 0 n) in
-      record { within = omega arith; few = omega arith; same = k.same ∙ omega arith }
-
-  pub counting_same : get_or t cell 0 ≡ 0 → CountingCodes t count (cell + 1)
-  counting_same n =
-      let f = k.few in
-      let e : occurrences (drop cell t) ≡ occurrences (drop (cell + 1) t) = rw (here, eq-eqb (get_or t cell 0) 0 n) in
-      record { within = omega arith; few = omega arith; same = k.same ∙ omega arith }
-
-pub counting_end : {t : List ℕ} {count cell : ℕ} → CountingCodes t count cell → length t ≤ cell → count ≡ occurrences t
-counting_end {t} {count} {cell} k h = let e : occurrences (drop cell t) ≡ 0 = rw (drop_of_length-le t h) in let s = k.same in omega arith
+-- how many occur, as the library counts
+pub occurrences_count : (t : List ℕ) → occurrences t ≡ count_by (λ code. not (eqb code 0)) t
+occurrences_count t = is_count_by occurrences (λ code. not (eqb code 0)) refl
+    (λ code t. test (eqb code 0) (λ z. rw z) (λ z. rw z (omega arith))) t
 
 -- ---- the whole card
 
@@ -139,11 +97,6 @@ card_parts name E U t = refl
 pub key_line_short : (key : List ℕ) (n : ℕ) → length (line_of (key ++ dec n)) ≤ length key + 5
 key_line_short key n = simp length-append (omega (arith, dec_short n))
 
--- the occurs lines are at most this long
-pub lines_short : (U at : ℕ) (t : List ℕ) → length (occurs_lines U at t) ≤ 22 * length t
-lines_short U at [] = omega arith
-lines_short U at (x ∷ t) = rw (length-append (occurs_line U at x) (occurs_lines U (at + 1) t)) (omega (arith, line_short U at x, lines_short U (at + 1) t))
-
 -- the first three lines are at most this long
 pub head_short : (name : List ℕ) (E U : ℕ) → length name ≤ 24 → length
     (line_of (rig_key ++ name) ++ line_of (equations_key ++ dec E) ++ line_of (unknowns_key ++ dec U)) ≤ 58
@@ -151,46 +104,23 @@ head_short name E U h = simp length-append (omega (arith, dec_short E, dec_short
 
 -- ---- the writer
 
--- within the limits, well sized is E × U bytes
-pub sized_bytes : (E U : ℕ) (t : List ℕ) → well_sized E U t ≡ true → eqb (length t) (E * U) ≡ true
-sized_bytes E U t h = and_right (in_limits E U) (eqb (length t) (E * U)) h
-
 -- what the lines need of a good name and table
 pub good_fits : {name : List ℕ} {E U : ℕ} {t : List ℕ} → WriteGood name E U t → (length name ≤ 24) × (1 ≤ U) × (U ≤ limit) × (length t ≤ limit * U)
 good_fits {name} {E} {U} {t} g =
     let l = limits E U g.limits in
     let s : length t ≡ E * U = eqb-true (length t) (E * U) g.sized in
-    let both = and_left (leb 1 (length name) && leb (length name) 24) (every name_byte name) g.named in
+    let both = and_left (leb 1 (length name) && leb (length name) 24) (list_all name_byte name) g.named in
     (leb-true (length name) 24 (and_right (leb 1 (length name)) (leb (length name) 24) both), l.1.low, l.1.high, rw s (mul-le-mul_right U l.0.high))
 
-module _ {name : List ℕ} {E U : ℕ} {t : List ℕ} (before : List ℕ) where
-  pub write_12 : {r : Writing} → r ≡ wrote_none 12 0 → good_name name ≡ false → WriteDone name E U t before r before
-  write_12 e a = rw e (record { answer = rw a; bytes = refl })
-
-  pub write_13 : {r : Writing} → r ≡ wrote_none 13 0 → good_name name ≡ true → in_limits E U ≡ false → WriteDone name E U t before r before
-  write_13 e a b = rw e (record { answer = rw (a, b); bytes = refl })
-
-  pub write_2 : {r : Writing} → r ≡ wrote_none 2 0 → good_name name ≡ true → in_limits E U ≡ true → well_sized E U t ≡ false → WriteDone name E U t before r before
-  write_2 e a b c = let d : eqb (length t) (E * U) ≡ false = rw b at c in rw e (record { answer = rw (a, b, d); bytes = refl })
-
-  pub write_4 : {r : Writing} {at : ℕ} → r ≡ wrote_none 4 at → at ≡ first_above t → good_name name ≡ true → in_limits E U ≡ true → eqb (length t) (E * U)
-      ≡ true → (at ≡ length t → ⊥)
-      → WriteDone name E U t before r before
-  write_4 {r} {at} e f a b c d = rw e (record { answer = rw (a, b, c, ← f, ne_eqb at (length t) d); bytes = refl })
-
-  module _ (g : WriteGood name E U t) where
-    pub write_18 : {r : Writing} → r ≡ wrote_none 18 0 → length before < length (card_of name E U t) → WriteDone name E U t before r before
-    write_18 e h = rw e (record { answer = rw (g.named, g.limits, g.sized, g.codes, lt-leb (length (card_of name E U t)) (length before) h); bytes = refl })
-
-    pub write_0 : {after : List ℕ} {m next : ℕ} → m ≡ length (card_of name E U t) → length (card_of name E U t) ≤ length before → Laid before 0
-        (card_of name E U t) after next
-        → WriteDone name E U t before (record { number = 0; place = 0; length = m }) after
-    write_0 {after} {m} e h k =
-        let z : 0 + length (card_of name E U t) ≡ length (card_of name E U t) = omega arith in
-        record {
-          answer = rw (e, g.named, g.limits, g.sized, g.codes, le-leb (length (card_of name E U t)) (length before) h);
-          bytes = k.list ∙ sets-eq (card_of name E U t) before 0 (rw z h) ∙ rw z;
-        }
+-- the card is written
+pub write_0 : {name : List ℕ} {E U : ℕ} {t before after : List ℕ} {next : ℕ} → WriteGood name E U t → length (card_of name E U t) ≤ length before
+    → Laid before 0 (card_of name E U t) after next → WriteDone name E U t before (Ok (length (card_of name E U t))) after
+write_0 {name} {E} {U} {t} {before} {after} g h k =
+    let z : 0 + length (card_of name E U t) ≡ length (card_of name E U t) = omega arith in
+    record {
+      answer = rw (g.named, g.limits, g.sized, g.codes, le-leb (length (card_of name E U t)) (length before) h);
+      bytes = k.list ∙ sets-eq (card_of name E U t) before 0 (rw z h) ∙ rw z;
+    }
 
 -- nothing is laid where there is no room at all
 pub laid_nothing : {after bytes : List ℕ} {i next : ℕ} → Laid [] i bytes after next → after ≡ []

@@ -12,13 +12,13 @@ use Rattle.laws.proofs.Tests.{test, and_left, and_right, and_both}
 use Rattle.table.specs.Model.{limit, top_code, counted_in, in_limits, first_above}
 use Rattle.table.proofs.Model.{limits}
 use Rattle.card.specs.Text.{LF, comma, rig_key, equations_key, unknowns_key, occurs_key, end_key, dec, Lines, none, line, lines_of}
-use Rattle.card.specs.Entry.{name_byte, every, entry_of}
+use Rattle.std.specs.List.{list_all}
+use Rattle.card.specs.Entry.{name_byte, entry_of}
 use Rattle.card.specs.Card.{good, rig_of, count_said, count_of, in_range, not_after, cell, collected, list_of, headed, from_rig, judged, line_of, occurs_lines}
 use Rattle.card.specs.Card.{occurrences, card_of}
+use Rattle.std.specs.Prelude.{Some, Ok}
 use Rattle.card.specs.Promise.{WriteGood}
 use Rattle.card.specs.declared.entry.Entry.TheVariants.{Occurs, End}
-use Rattle.card.specs.declared.judge.Rig.TheVariants.{Named}
-use Rattle.card.specs.declared.judge.Count.TheVariants.{Counts}
 use Rattle.card.proofs.Lines.{value_dec, entry_occurs, entry_ended, lines_of_lem, rig_clear, value_clear, occurs_clear}
 use Rattle.card.proofs.Order.{cell_of, pair_at, Behind, behind_none, behind_some, behind_more, behind_after}
 use Rattle.card.proofs.ListLaws.{cells_within}
@@ -28,8 +28,8 @@ use Rattle.card.proofs.ListLaws.{cells_within}
 abbrev pub small : ℕ → Bool
 small x = leb x top_code
 
--- no code above 4: every one is at most 4
-pub codes_small : (t : List ℕ) → eqb (first_above t) (length t) ≡ true → every small t ≡ true
+-- no code above 4: list_all one is at most 4
+pub codes_small : (t : List ℕ) → eqb (first_above t) (length t) ≡ true → list_all small t ≡ true
 codes_small [] h = refl
 codes_small (x ∷ t) h =
     test (small x)
@@ -37,11 +37,11 @@ codes_small (x ∷ t) h =
     and_both s (codes_small t (eq-eqb (first_above t) (length t) (omega arith))))
     (λ s. let e : 0 ≡ suc (length t) = eqb-true 0 (suc (length t)) (rw s at h) in absurd (omega arith))
 
-pub small_codes : (t : List ℕ) → every small t ≡ true → eqb (first_above t) (length t) ≡ true
+pub small_codes : (t : List ℕ) → list_all small t ≡ true → eqb (first_above t) (length t) ≡ true
 small_codes [] h = refl
 small_codes (x ∷ t) h =
-    let e = eqb-true (first_above t) (length t) (small_codes t (and_right (small x) (every small t) h)) in
-    rw (and_left (small x) (every small t) h) (eq-eqb (suc (first_above t)) (suc (length t)) (omega arith))
+    let e = eqb-true (first_above t) (length t) (small_codes t (and_right (small x) (list_all small t) h)) in
+    rw (and_left (small x) (list_all small t) h) (eq-eqb (suc (first_above t)) (suc (length t)) (omega arith))
 
 pub few : (t : List ℕ) → occurrences t ≤ length t
 few [] = omega arith
@@ -50,11 +50,11 @@ few (x ∷ t) = let l = few t in test (eqb x 0) (λ z. rw z (omega arith)) (λ z
 -- ---- the occurs lines and the end line
 
 module _ (name : List ℕ) (E U : ℕ) where
-  collected_occurs : (n e' u' at : ℕ) (t l : List ℕ) (rest : Lines) {e u k : ℕ} → entry_of l ≡ Occurs e u k → in_range E U e u k ≡ true → not_after e u e' u' ≡ false
+  collected_occurs : (n e' u' at : ℕ) (t l : List ℕ) (rest : Lines) {e u k : ℕ} → entry_of l ≡ Some (Occurs e u k) → in_range E U e u k ≡ true → not_after e u e' u' ≡ false
       → collected name E U n e' u' t at (line l rest) ≡ collected name E U (n + 1) e u (set t (cell U e u) (k + 1)) (at + length l + 1) rest
   collected_occurs n e' u' at t l rest p q r = rw (p, q, r)
 
-  collected_end : (n e' u' at N : ℕ) (t l : List ℕ) → entry_of l ≡ End N → N ≡ n → collected name E U n e' u' t at (line l none) ≡ good name E U t
+  collected_end : (n e' u' at N : ℕ) (t l : List ℕ) → entry_of l ≡ Some (End N) → N ≡ n → collected name E U n e' u' t at (line l none) ≡ good name E U t
   collected_end n e' u' at N t l p q = rw (p, eq-eqb N n q)
 
   -- the text of the codes r from byte c on
@@ -111,7 +111,7 @@ module _ (name : List ℕ) (E U : ℕ) where
       (and_both (le-leb 1 (c % U + 1) (omega arith)) (le-leb (c % U + 1) U k.u_high))) (le-leb (x - 1) 3 (omega arith))
 
   module _ (lim : in_limits E U ≡ true) where
-    collected_reads : (r p : List ℕ) (n e' u' at N c : ℕ) → length p ≡ c → c + length r ≡ E * U → every small r ≡ true → Behind U c e' u' → N ≡ n +
+    collected_reads : (r p : List ℕ) (n e' u' at N c : ℕ) → length p ≡ c → c + length r ≡ E * U → list_all small r ≡ true → Behind U c e' u' → N ≡ n +
         occurrences r → N ≤ 9999
         → collected name E U n e' u' (p ++ replicate (length r) 0) at (lines_of (rest_of c r N)) ≡ good name E U (p ++ r)
     unfolding rest_of
@@ -119,8 +119,8 @@ module _ (name : List ℕ) (E U : ℕ) where
         ap (collected name E U n e' u' (p ++ []) at) (lines_of_lem (end_key ++ dec N) [] (value_clear end_key N refl top))
         ∙ collected_end n e' u' at N (p ++ []) (end_key ++ dec N) (entry_ended N top) (omega arith)
     collected_reads (x ∷ r) p n e' u' at N c lp len sm bh cnt top =
-        let sx = and_left (small x) (every small r) sm in
-        let sr = and_right (small x) (every small r) sm in
+        let sx = and_left (small x) (list_all small r) sm in
+        let sr = and_right (small x) (list_all small r) sm in
         let bounds = limits E U lim in
         let e-top : E ≤ limit = bounds.0.high in
         let lo : 1 ≤ U = bounds.1.low in
@@ -164,8 +164,8 @@ module _ (name : List ℕ) (E U : ℕ) (t : List ℕ) (g : WriteGood name E U t)
   unfolding card_of rest_of third second N
   card_is = regroup (rig_key ++ name) (equations_key ++ dec E) (unknowns_key ++ dec U) (occurs_lines U 0 t) (line_of (end_key ++ dec (occurrences t)))
 
-  name_bytes : every name_byte name ≡ true
-  name_bytes = and_right (leb 1 (length name) && leb (length name) 24) (every name_byte name) g.named
+  name_bytes : list_all name_byte name ≡ true
+  name_bytes = and_right (leb 1 (length name) && leb (length name) 24) (list_all name_byte name) g.named
 
   limited : (E ≤ limit) × (U ≤ limit)
   limited = let b = limits E U g.limits in (b.0.high, b.1.high)
@@ -194,12 +194,12 @@ module _ (name : List ℕ) (E U : ℕ) (t : List ℕ) (g : WriteGood name E U t)
   name_is = ap (λ s. drop (length rig_key) (take (length (rig_key ++ name)) s)) card_is ∙ ap (drop (length rig_key))
       (take_at (rig_key ++ name) (LF ∷ second) (length (rig_key ++ name)) refl)
 
-  rig_named : (rest : Lines) → rig_of (line (rig_key ++ name) rest) ≡ Named (length (rig_key ++ name))
+  rig_named : (rest : Lines) → rig_of (line (rig_key ++ name) rest) ≡ Ok (length (rig_key ++ name))
   rig_named rest = rw g.named
 
-  count_said_lem : (key : List ℕ) (n at : ℕ) (rest : Lines) → n ≤ limit → counted_in n ≡ true → count_of key at (line (key ++ dec n) rest) ≡ Counts n
-      (at + length (key ++ dec n) + 1)
-  count_said_lem key n at rest h c = ap (count_said (at + length (key ++ dec n) + 1)) (value_dec key n (omega arith)) ∙ rw c
+  count_said_lem : (key : List ℕ) (n at : ℕ) (rest : Lines) → n ≤ limit → counted_in n ≡ true → count_of key at (line (key ++ dec n) rest) ≡ Ok
+      (n, at + length (key ++ dec n) + 1)
+  count_said_lem key n at rest h c = ap (count_said at (at + length (key ++ dec n) + 1)) (value_dec key n (omega arith)) ∙ rw c
 
   head_read : (at : ℕ) (rest : Lines)
       → headed name at (line (equations_key ++ dec E) (line (unknowns_key ++ dec U) rest))

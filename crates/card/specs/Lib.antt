@@ -1,6 +1,7 @@
 -- What the contracts of this crate cite.
 pub mod Text
 pub mod Entry
+pub mod Refusal
 pub mod Card
 pub mod Promise
 pub mod Laid

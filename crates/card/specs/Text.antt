@@ -1,11 +1,10 @@
 -- Document 01, "The card": bytes, keys, numbers and lines.
--- A type that the code declares, and its cases:
---   Number  `Missing`: no digit stands in front; `Is value took`: a number, and how many bytes it takes
-use Rattle.std.specs.Prelude.{Bool, true, false, ◌&&◌, List, [], ◌∷◌, ℕ, zero, suc, ◌+◌, ◌-◌, ◌*◌, ◌/◌, ◌%◌, leb, ltb, eqb, drop}
+-- A type that the code declares: Number, a number at the front of a text and how many bytes it takes.
+use Rattle.std.specs.Prelude.{Option, None, Some, Bool, ◌&&◌, List, [], ◌∷◌, ℕ, zero, suc, ◌+◌, ◌-◌, ◌*◌, ◌/◌, ◌%◌, leb, ltb, eqb, drop}
+use Rattle.std.specs.List.{starts_with}
 use Rattle.laws.specs.Tab.{pick}
 use Rattle.laws.specs.Text.{bytes}
 use Rattle.card.specs.declared.text.Number.{Number}
-use Rattle.card.specs.declared.text.Number.TheVariants.{Missing, Is}
 
 -- the byte that ends a line, and the comma
 abbrev pub LF : ℕ
@@ -31,9 +30,7 @@ end_key = bytes "end="
 
 -- the text begins with these bytes
 abbrev pub begins : List ℕ → List ℕ → Bool
-begins [] text = true
-begins (k ∷ key) [] = false
-begins (k ∷ key) (b ∷ text) = eqb k b && begins key text
+begins key text = starts_with eqb text key
 
 -- a-z
 abbrev pub is_letter : ℕ → Bool
@@ -43,16 +40,19 @@ is_letter b = leb 97 b && leb b 122
 abbrev pub is_digit : ℕ → Bool
 is_digit b = leb 48 b && leb b 57
 
+abbrev pub number : ℕ → ℕ → Number
+number value took = record { value = value; took = took }
+
 -- "Numbers have 1 to 4 digits without a leading zero, except 0 itself": the number at the front of a text and how many bytes it takes.
 -- A leading 0 takes one byte; else the digits that follow, to four in all.
 abbrev pub digits_of : ℕ → ℕ → ℕ → List ℕ → Number
-digits_of zero value took text = Is value took
-digits_of (suc more) value took [] = Is value took
-digits_of (suc more) value took (b ∷ text) = pick (is_digit b) (digits_of more (value * 10 + (b - 48)) (took + 1) text) (Is value took)
+digits_of zero value took text = number value took
+digits_of (suc more) value took [] = number value took
+digits_of (suc more) value took (b ∷ text) = pick (is_digit b) (digits_of more (value * 10 + (b - 48)) (took + 1) text) (number value took)
 
-abbrev pub number_of : List ℕ → Number
-number_of [] = Missing
-number_of (b ∷ text) = pick (is_digit b) (pick (eqb b 48) (Is 0 1) (digits_of 3 (b - 48) 1 text)) Missing
+abbrev pub number_of : List ℕ → Option Number
+number_of [] = None
+number_of (b ∷ text) = pick (is_digit b) (Some (pick (eqb b 48) (number 0 1) (digits_of 3 (b - 48) 1 text))) None
 
 -- the decimal digits of a number up to 9999: four digits, without the zeros in front
 abbrev pub digit_of : ℕ → ℕ

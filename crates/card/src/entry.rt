@@ -2,19 +2,11 @@
 ghost use Rattle.std.specs.Prelude.{◌≡◌};
 ghost use Rattle.card.specs.Entry.{name_byte, good_name, whole_of, value_of, comma_of, triple_of, entry_of};
 
-use crate::text::{Number, digit, front_number, letter, starts};
-
-// The value of a line of a key and one number.
-#[derive(Clone, Copy)]
-pub enum Value {
-    Other,
-    Says(usize),
-}
+use crate::text::{Number, front_number};
 
 // A line after the unknowns line.
 #[derive(Clone, Copy)]
 pub enum Entry {
-    Shape,
     Occurs {
         equation: usize,
         unknown: usize,
@@ -26,118 +18,80 @@ pub enum Entry {
 fn name_byte(byte: u8) -> bool
     ensures { result ≡ name_byte byte }
 {
-    if letter(byte) {
-        return true;
-    }
-    if digit(byte) {
-        return true;
-    }
-    byte == b'-'
+    byte.is_ascii_lowercase() || byte.is_ascii_digit() || byte == b'-'
 }
 
 // 1 to 24 bytes of a-z, 0-9 and hyphen.
 pub fn good_name(name: &[u8]) -> bool
     ensures { result ≡ good_name name.now }
 {
-    if name.len() < 1 {
-        return false;
-    }
-    if 24 < name.len() {
-        return false;
-    }
-    let mut i = 0;
-    while i < name.len() {
-        if !name_byte(name[i]) {
-            return false;
-        }
-        i += 1;
-    }
-    true
+    1 <= name.len() && name.len() <= 24 && name.iter().all(|&byte| name_byte(byte))
 }
 
 // The whole text is one number.
-fn whole(text: &[u8]) -> Value
+fn whole(text: &[u8]) -> Option<usize>
     ensures { result ≡ whole_of text.now }
 {
-    let Number::Is { value, took } = front_number(text) else {
-        return Value::Other;
-    };
-    if took == text.len() {
-        Value::Says(value)
+    let number = front_number(text)?;
+    if number.took == text.len() {
+        Some(number.value)
     } else {
-        Value::Other
+        None
     }
 }
 
 // The line is the key and one number.
-pub fn line_value(line: &[u8], key: &[u8]) -> Value
+pub fn line_value(line: &[u8], key: &[u8]) -> Option<usize>
     ensures { result ≡ value_of key.now line.now }
 {
-    if !starts(line, key) {
-        return Value::Other;
+    if line.starts_with(key) {
+        whole(&line[key.len()..])
+    } else {
+        None
     }
-    let from = key.len();
-    whole(&line[from..])
 }
 
 // A number and a comma in front.
-fn with_comma(text: &[u8]) -> Number
+fn with_comma(text: &[u8]) -> Option<Number>
     ensures { result ≡ comma_of text.now }
 {
-    let Number::Is { value, took } = front_number(text) else {
-        return Number::Missing;
-    };
-    if starts(&text[took..], b",") {
-        Number::Is {
-            value,
-            took: took + 1,
-        }
+    let number = front_number(text)?;
+    if text[number.took..].starts_with(b",") {
+        Some(Number {
+            value: number.value,
+            took: number.took + 1,
+        })
     } else {
-        Number::Missing
+        None
     }
 }
 
 // `e,u,k`.
-fn triple(text: &[u8]) -> Entry
+fn triple(text: &[u8]) -> Option<Entry>
     ensures { result ≡ triple_of text.now }
 {
-    let Number::Is {
-        value: equation,
-        took: first,
-    } = with_comma(text)
-    else {
-        return Entry::Shape;
-    };
-    let second_text = &text[first..];
-    let Number::Is {
-        value: unknown,
-        took: second,
-    } = with_comma(second_text)
-    else {
-        return Entry::Shape;
-    };
-    let Value::Says(order) = whole(&second_text[second..]) else {
-        return Entry::Shape;
-    };
-    Entry::Occurs {
-        equation,
-        unknown,
+    let equation = with_comma(text)?;
+    let behind = &text[equation.took..];
+    let unknown = with_comma(behind)?;
+    let order = whole(&behind[unknown.took..])?;
+    Some(Entry::Occurs {
+        equation: equation.value,
+        unknown: unknown.value,
         order,
-    }
+    })
 }
 
 // A line beginning `end=` is the end line, any other is due to be an occurs line.
-pub fn line_entry(line: &[u8]) -> Entry
+pub fn line_entry(line: &[u8]) -> Option<Entry>
     ensures { result ≡ entry_of line.now }
 {
-    if starts(line, b"end=") {
-        let Value::Says(count) = line_value(line, b"end=") else {
-            return Entry::Shape;
-        };
-        return Entry::End(count);
+    if line.starts_with(b"end=") {
+        let count = line_value(line, b"end=")?;
+        return Some(Entry::End(count));
     }
-    if !starts(line, b"occurs=") {
-        return Entry::Shape;
+    if line.starts_with(b"occurs=") {
+        triple(&line[7..])
+    } else {
+        None
     }
-    triple(&line[7..])
 }

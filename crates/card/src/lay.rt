@@ -1,12 +1,13 @@
 // The card of a table, laid line by line.
 ghost use Rattle.std.specs.Prelude.{◌≡◌, ◌∷◌, ◌++◌, ◌+◌, ◌*◌, ◌^◌, ◌≤◌, ◌<◌, length};
 ghost use Rattle.table.specs.Model.{limit};
+ghost use Rattle.table.specs.Number.{equation_number, unknown_number};
 ghost use Rattle.card.specs.Text.{occurs_key, comma, dec};
 ghost use Rattle.card.specs.Card.{line_of, occurs_line, occurs_lines, occurrences, head_lines, card_of};
 ghost use Rattle.card.specs.Laid.{Laid};
 
 use crate::put::{put, put_all, put_comma, put_line, put_number};
-use table::number::{Equation, Unknown};
+use table::number::{Counted, Equation, Unknown};
 
 // `occurs=e,u,k`
 fn put_occurs(
@@ -17,11 +18,11 @@ fn put_occurs(
     order: usize,
 ) -> usize
     requires { at + 22 < 2 ^ 64 }
-    ensures { Laid card.old at (line_of (occurs_key ++ dec equation.0 ++ comma ∷ dec unknown.0 ++ comma ∷ dec order)) card.new result }
+    ensures { Laid card.old at (line_of (occurs_key ++ dec (equation_number equation) ++ comma ∷ dec (unknown_number unknown) ++ comma ∷ dec order)) card.new result }
 {
     let behind_key = put_all(card, at, b"occurs=");
-    let behind_equation = put_comma(card, behind_key, equation.0 as usize);
-    let behind_unknown = put_comma(card, behind_equation, unknown.0 as usize);
+    let behind_equation = put_comma(card, behind_key, usize::from(equation.number().get()));
+    let behind_unknown = put_comma(card, behind_equation, usize::from(unknown.number().get()));
     let behind_order = put_number(card, behind_unknown, order);
     put(card, behind_order, b'\n')
 }
@@ -36,37 +37,28 @@ fn put_cell(card: &mut [u8], at: usize, unknowns: usize, cell: usize, code: u8) 
     }
     let equation = Equation::at(cell / unknowns);
     let unknown = Unknown::at(cell % unknowns);
-    put_occurs(card, at, equation, unknown, (code - 1) as usize)
+    put_occurs(card, at, equation, unknown, usize::from(code - 1))
 }
 
 // The occurs lines, row by row.
+#[tactic(auto, using(crate::proofs::WriteLaws::lines_near))]
 fn put_cells(card: &mut [u8], at: usize, unknowns: usize, table: &[u8]) -> usize
     requires { (at ≤ 2 ^ 32) × (1 ≤ unknowns) × (unknowns ≤ limit) × (length table.now ≤ limit * unknowns) }
     ensures { Laid card.old at (occurs_lines unknowns 0 table.now) card.new result }
 {
     let mut next = at;
-    let mut cell = 0;
-    while cell < table.len() {
-        next = put_cell(card, next, unknowns, cell, table[cell]);
-        cell += 1;
+    for (cell, &code) in table.iter().enumerate() {
+        next = put_cell(card, next, unknowns, cell, code);
     }
     next
 }
 
 // How many codes are not 0.
+#[tactic(auto, using(crate::proofs::WriteLaws::occurrences_count))]
 fn count_codes(table: &[u8]) -> usize
     ensures { result ≡ occurrences table.now }
 {
-    let mut count = 0;
-    let mut cell = 0;
-    while cell < table.len() {
-        let code = table[cell];
-        cell += 1;
-        if code != 0 {
-            count += 1;
-        }
-    }
-    count
+    table.iter().filter(|code| **code != 0).count()
 }
 
 // The first three lines, from the first byte on.

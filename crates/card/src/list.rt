@@ -2,40 +2,29 @@
 ghost use Rattle.std.specs.Prelude.{◌≡◌, true, ◌≤◌, length, drop};
 ghost use Rattle.table.specs.Model.{in_limits};
 ghost use Rattle.card.specs.Text.{lines_of};
+ghost use Rattle.table.specs.Number.{equation_number, unknown_number};
 ghost use Rattle.card.specs.declared.entry.Entry.TheVariants.{Occurs};
 ghost use Rattle.card.specs.Card.{in_range, not_after, turn_said, turn_of};
-ghost use Rattle.card.specs.Steps.{end_said, ListRead};
+ghost use Rattle.card.specs.Steps.{last_equation, last_unknown, said_in, end_said, ListRead};
 
 use crate::entry::{Entry, line_entry};
-use crate::text::{Line, line_at};
+use crate::refusal::{Refusal, Refused};
+use crate::text::line_at;
 use table::CELLS;
-use table::number::{Equation, Unknown};
+use table::number::{Counted, Equation, Unknown};
 
-// The pair of an occurs line; 0, 0 where no line stands before.
-#[derive(Clone, Copy)]
+// The pair of an occurs line; pairs ascend by equation and then unknown.
+#[derive(Clone, Copy, PartialEq, Eq, PartialOrd, Ord)]
 pub struct Pair {
     pub equation: Equation,
     pub unknown: Unknown,
 }
 
-// A line after the unknowns line: refused, or its pair and code, or the end line's number; and where the next line starts.
+// A line after the unknowns line: its pair and code, or the end line's number; and where the next line starts.
 #[derive(Clone, Copy)]
 pub enum Turn {
-    Refused(u8),
     Next { pair: Pair, code: u8, next: usize },
     Last { count: usize, next: usize },
-}
-
-// What the end line comes to: a number and a place, 0 and 0 where the card is good.
-#[derive(Clone, Copy)]
-pub struct Ending(pub u8, pub usize);
-
-// What the lines come to: number 0 and the table collected from them, or a refusal.
-#[derive(Clone, Copy)]
-pub struct Collected {
-    pub number: u8,
-    pub place: usize,
-    pub table: [u8; CELLS],
 }
 
 fn in_range(
@@ -47,131 +36,108 @@ fn in_range(
 ) -> bool
     ensures { result ≡ in_range equations unknowns equation unknown order }
 {
-    if equation < 1 {
-        return false;
-    }
-    if equations < equation {
-        return false;
-    }
-    if unknown < 1 {
-        return false;
-    }
-    if unknowns < unknown {
-        return false;
-    }
-    order <= 3
+    1 <= equation && equation <= equations && 1 <= unknown && unknown <= unknowns && order <= 3
 }
 
 // The pair equals or precedes the one before.
-fn not_after(pair: Pair, last: Pair) -> bool
-    ensures { result ≡ not_after pair.equation.0 pair.unknown.0 last.equation.0 last.unknown.0 }
+fn not_after(pair: Pair, last: Option<Pair>) -> bool
+    ensures { result ≡ not_after (equation_number pair.equation) (unknown_number pair.unknown) (last_equation last) (last_unknown last) }
 {
-    if pair.equation.0 < last.equation.0 {
-        return true;
-    }
-    if pair.equation.0 == last.equation.0 {
-        return pair.unknown.0 <= last.unknown.0;
-    }
-    false
+    last.is_some_and(|last| pair <= last)
 }
 
 // What an occurs line `e,u,k` comes to: 14 before 15.
 fn read_pair(
     equations: usize,
     unknowns: usize,
-    last: Pair,
+    last: Option<Pair>,
+    at: usize,
     next: usize,
     e: usize,
     u: usize,
     k: usize,
-) -> Turn
+) -> Result<Turn, Refused>
     requires { in_limits equations unknowns ≡ true }
-    ensures { result ≡ turn_said equations unknowns last.equation.0 last.unknown.0 next (Occurs e u k) }
+    ensures { said_in result ≡ turn_said equations unknowns (last_equation last) (last_unknown last) at next (Some (Occurs e u k)) }
 {
     if !in_range(equations, unknowns, e, u, k) {
-        return Turn::Refused(14);
+        return Err(Refusal::OutOfRange.at(at));
     }
-    let equation = Equation(e as u8);
-    let unknown = Unknown(u as u8);
+    let equation = Equation::at(e - 1);
+    let unknown = Unknown::at(u - 1);
     let pair = Pair { equation, unknown };
     if not_after(pair, last) {
-        return Turn::Refused(15);
+        return Err(Refusal::NotAfter.at(at));
     }
-    Turn::Next {
+    Ok(Turn::Next {
         pair,
         code: (k + 1) as u8,
         next,
-    }
+    })
 }
 
 // The line at a place, behind a line of the pair `last`.
-fn read_turn(card: &[u8], at: usize, equations: usize, unknowns: usize, last: Pair) -> Turn
+fn read_turn(
+    card: &[u8],
+    at: usize,
+    equations: usize,
+    unknowns: usize,
+    last: Option<Pair>,
+) -> Result<Turn, Refused>
     requires { in_limits equations unknowns ≡ true }
-    ensures { result ≡ turn_of equations unknowns last.equation.0 last.unknown.0 at (lines_of (drop at card.now)) }
+    ensures { said_in result ≡ turn_of equations unknowns (last_equation last) (last_unknown last) at (lines_of (drop at card.now)) }
 {
-    let Line::Ends(end) = line_at(card, at) else {
-        return Turn::Refused(11);
-    };
+    let end = line_at(card, at).ok_or(Refusal::Shape.at(at))?;
     let next = end + 1;
-    match line_entry(&card[at..end]) {
-        Entry::Shape => Turn::Refused(11),
-        Entry::End(count) => Turn::Last { count, next },
+    match line_entry(&card[at..end]).ok_or(Refusal::Shape.at(at))? {
+        Entry::End(count) => Ok(Turn::Last { count, next }),
         Entry::Occurs {
             equation,
             unknown,
             order,
-        } => read_pair(equations, unknowns, last, next, equation, unknown, order),
+        } => read_pair(
+            equations, unknowns, last, at, next, equation, unknown, order,
+        ),
     }
 }
 
 // The end line at a place, behind so many occurs lines: 16 before bytes behind it.
-fn read_end(card: &[u8], said: usize, count: usize, at: usize, next: usize) -> Ending
+fn read_end(card: &[u8], said: usize, count: usize, at: usize, next: usize) -> Result<(), Refused>
     ensures { result ≡ end_said (length card.now) said count at next }
 {
     if said != count {
-        return Ending(16, at);
+        return Err(Refusal::EndNumber.at(at));
     }
     if next < card.len() {
-        return Ending(11, next);
+        return Err(Refusal::Shape.at(next));
     }
-    Ending(0, 0)
+    Ok(())
 }
 
-// The occurs lines and the end line, from a place on.
-pub fn read_list(card: &[u8], from: usize, equations: usize, unknowns: usize) -> Collected
+// The occurs lines and the end line, from a place on: the table collected from them.
+pub fn read_list(
+    card: &[u8],
+    from: usize,
+    equations: usize,
+    unknowns: usize,
+) -> Result<[u8; CELLS], Refused>
     requires { (in_limits equations unknowns ≡ true) × (from ≤ length card.now) }
     ensures { ListRead card.now equations unknowns from result }
 {
     let mut table = [0u8; CELLS];
-    let mut last = Pair {
-        equation: Equation(0),
-        unknown: Unknown(0),
-    };
+    let mut last = None;
     let mut count = 0;
     let mut at = from;
     loop {
-        match read_turn(card, at, equations, unknowns, last) {
-            Turn::Refused(number) => {
-                return Collected {
-                    number,
-                    place: at,
-                    table,
-                };
-            }
+        match read_turn(card, at, equations, unknowns, last)? {
             Turn::Last { count: said, next } => {
-                let ending = read_end(card, said, count, at, next);
-                return Collected {
-                    number: ending.0,
-                    place: ending.1,
-                    table,
-                };
+                read_end(card, said, count, at, next)?;
+                return Ok(table);
             }
             Turn::Next { pair, code, next } => {
-                let equation = pair.equation;
-                let unknown = pair.unknown;
-                let cell = equation.place() * unknowns + unknown.place();
+                let cell = pair.equation.place() * unknowns + pair.unknown.place();
                 table[cell] = code;
-                last = pair;
+                last = Some(pair);
                 count += 1;
                 at = next;
             }

@@ -18,19 +18,18 @@ pub fn put_all(card: &mut [u8], at: usize, bytes: &[u8]) -> usize
     requires { at + length bytes.now < 2 ^ 64 }
     ensures { Laid card.old at bytes.now card.new result }
 {
-    let mut i = 0;
-    while i < bytes.len() {
-        put(card, at + i, bytes[i]);
-        i += 1;
+    let mut next = at;
+    for &byte in bytes {
+        next = put(card, next, byte);
     }
-    at + i
+    next
 }
 
 // The last decimal digit.
 pub fn digit_of(n: usize) -> u8
     ensures { result ≡ digit_of n }
 {
-    48 + (n % 10) as u8
+    b'0' + (n % 10) as u8
 }
 
 // How many of four digits are zeros in front.

@@ -1,91 +1,48 @@
-// Bytes, numbers and lines.
+// Numbers and lines.
 ghost use Rattle.std.specs.Prelude.{◌≡◌, drop};
-ghost use Rattle.card.specs.Text.{begins, is_letter, is_digit, number_of, lines_of};
+ghost use Rattle.card.specs.Text.{number_of, lines_of};
 ghost use Rattle.card.specs.Steps.{end_of};
 
 // A number at the front of a text, and how many bytes it takes.
 #[derive(Clone, Copy)]
-pub enum Number {
-    Missing,
-    Is { value: usize, took: usize },
-}
-
-// Where a line's LF stands.
-#[derive(Clone, Copy)]
-pub enum Line {
-    Unended,
-    Ends(usize),
-}
-
-pub fn letter(byte: u8) -> bool
-    ensures { result ≡ is_letter byte }
-{
-    97 <= byte && byte <= 122
-}
-
-pub fn digit(byte: u8) -> bool
-    ensures { result ≡ is_digit byte }
-{
-    48 <= byte && byte <= 57
-}
-
-// The text begins with the key.
-pub fn starts(text: &[u8], key: &[u8]) -> bool
-    ensures { result ≡ begins key.now text.now }
-{
-    if text.len() < key.len() {
-        return false;
-    }
-    let mut i = 0;
-    while i < key.len() {
-        if key[i] != text[i] {
-            return false;
-        }
-        i += 1;
-    }
-    true
+pub struct Number {
+    pub value: usize,
+    pub took: usize,
 }
 
 // The number at the front: a leading 0 stands alone, any other digit takes up to three more with it.
-pub fn front_number(text: &[u8]) -> Number
+pub fn front_number(text: &[u8]) -> Option<Number>
     ensures { result ≡ number_of text.now }
 {
-    if text.len() == 0 {
-        return Number::Missing;
-    }
-    let first = text[0];
-    if !digit(first) {
-        return Number::Missing;
+    let (&first, rest) = text.split_first()?;
+    if !first.is_ascii_digit() {
+        return None;
     }
     if first == b'0' {
-        return Number::Is { value: 0, took: 1 };
+        return Some(Number { value: 0, took: 1 });
     }
-    let mut value = (first - 48) as usize;
-    let mut took = 1;
-    while took < 4 {
-        if text.len() <= took {
-            return Number::Is { value, took };
+    let mut number = Number {
+        value: usize::from(first - b'0'),
+        took: 1,
+    };
+    for &byte in &rest[..rest.len().min(3)] {
+        if !byte.is_ascii_digit() {
+            return Some(number);
         }
-        let byte = text[took];
-        if !digit(byte) {
-            return Number::Is { value, took };
-        }
-        value = value * 10 + (byte - 48) as usize;
-        took += 1;
+        number.value = number.value * 10 + usize::from(byte - b'0');
+        number.took += 1;
     }
-    Number::Is { value, took }
+    Some(number)
 }
 
 // The end of the line that starts at a place.
-pub fn line_at(card: &[u8], at: usize) -> Line
+pub fn line_at(card: &[u8], at: usize) -> Option<usize>
     ensures { result ≡ end_of at (lines_of (drop at card.now)) }
 {
-    let mut end = at;
-    while end < card.len() {
+    for end in at..card.len() {
         if card[end] == b'\n' {
-            return Line::Ends(end);
+            return Some(end);
         }
-        end += 1;
     }
-    Line::Unended
+    None
 }

@@ -1,17 +1,19 @@
 -- What the definitions of specs/Model say of numbers.
-use mathlib.Core.Path.{◌≡◌, ◌∙◌}
-use mathlib.Core.Bool.{true, false}
+use mathlib.Core.Path.{◌≡◌, refl, ◌∙◌}
+use mathlib.Core.Bool.{true}
 use mathlib.Core.List.{List, [], ◌∷◌}
 use Prim.Native.Nat.{ℕ, zero, suc, ◌+◌, ◌*◌, ◌≤◌, ◌<◌}
 use native.Mathlib.Nat.{suc-mul, mul-le-mul_right}
 use native.Mathlib.Omega.{arith}
 use lib.Dec.{leb, eqb, ltb}
-use lib.ListN.{length, get_or, drop, drop_of_length-le, replicate}
-use lib.Seq.{drop-cons}
-use borrow.Author.Tests.{lt-ltb, ltb-true, ltb-false}
-use Rattle.laws.specs.Tab.{tab, pick, upto}
+use Rattle.std.specs.List.{position, position_or_len}
+use Rattle.std.specs.Option.{unwrap_or}
+use Rattle.std.proofs.lemmas.List.Recursion.{is_position_or_len}
+use lib.ListN.{length, get_or, replicate}
+use borrow.Author.Tests.{lt-ltb, le-ltb, leb-true, leb-false}
+use Rattle.laws.specs.Tab.{tab, pick}
 use Rattle.laws.proofs.Tests.{test, tests, and_left, and_right}
-use Rattle.laws.proofs.Tab.{get_or_tab, tab_ext, upto_below, upto_from, replicate_tab}
+use Rattle.laws.proofs.Tab.{get_or_tab, tab_ext, replicate_tab}
 use Rattle.table.specs.Model.{limit, top_code, counted_in, in_limits, Numbered, well_sized, first_above, code_at, Bounded, square, lent_code, rows_of}
 
 pub counted : (n : ℕ) → counted_in n ≡ true → Numbered n
@@ -39,41 +41,34 @@ sized E U t h =
 pub row_within : (E U e : ℕ) → e < E → e * U + U ≤ E * U
 row_within E U e h = rw (← (suc-mul e U)) (mul-le-mul_right U h)
 
--- the first code above 4 is looked for from the front
-pub above_here : (t : List ℕ) (i : ℕ) → i < length t → top_code < get_or t i 0 → first_above (drop i t) ≡ 0
-above_here t i h l = rw (drop-cons t i 0 h) (rw (lt_leb' (get_or t i 0) l))
-  where
-    lt_leb' : (x : ℕ) → top_code < x → leb x top_code ≡ false
-    lt_leb' x q = omega (arith, tests)
-
-pub above_next : (t : List ℕ) (i : ℕ) → i < length t → get_or t i 0 ≤ top_code → first_above (drop i t) ≡ suc (first_above (drop (suc i) t))
-above_next t i h l = rw (drop-cons t i 0 h) (rw (le_leb' (get_or t i 0) l))
-  where
-    le_leb' : (x : ℕ) → x ≤ top_code → leb x top_code ≡ true
-    le_leb' x q = omega (arith, tests)
-
-pub above_none : (t : List ℕ) (i : ℕ) → length t ≤ i → first_above (drop i t) ≡ 0
-above_none t i h = rw (drop_of_length-le t h)
-
--- a row of the lent table, as its definition has it
-pub lent_row_is : (E U : ℕ) (t : List ℕ) (e : ℕ) → e < E → tab limit (λ u. pick (ltb u U) (get_or t (e * U + u) 0) 0) ≡ tab limit (lent_code E U t e)
-lent_row_is E U t e h = tab_ext limit (λ u. pick (ltb u U) (get_or t (e * U + u) 0) 0) (lent_code E U t e) (λ u b. rw (lt-ltb e E h))
-
--- the rows as far as E, and zeros beyond
-pub lent_rows_end : (E U : ℕ) (t : List ℕ) → tab limit (upto E (λ e. tab limit (lent_code E U t e)) (λ e. replicate limit 0)) ≡ rows_of E U t
-lent_rows_end E U t = tab_ext limit (upto E (λ e. tab limit (lent_code E U t e)) (λ e. replicate limit 0)) (λ e. tab limit (lent_code E U t e)) (λ e b. test (ltb e E)
-    (λ h. upto_below E (λ e. tab limit (lent_code E U t e)) (λ e. replicate limit 0) e (ltb-true e E h))
-    (λ h. upto_from E (λ e. tab limit (lent_code E U t e)) (λ e. replicate limit 0) e (ltb-false e E h)
-    ∙ replicate_tab {A = ℕ} limit 0 ∙ tab_ext limit (λ u. 0) (lent_code E U t e) (λ u k. rw h)))
-
--- what stands in a square
-pub square_at : (f : ℕ → ℕ → ℕ) (e u : ℕ) → e < limit → u < limit → code_at (square f) e u ≡ f e u
-square_at f e u h k = rw (get_or_tab limit (λ x. tab limit (f x)) e [] h) (get_or_tab limit (f e) u 0 k)
-
 -- the first code above 4 stands within the table, or at its end
 pub above_most : (t : List ℕ) → first_above t ≤ length t
 above_most [] = omega arith
 above_most (x ∷ t) = let r = above_most t in test (leb x top_code) (λ a. rw a (omega arith)) (λ a. rw a (omega arith))
+
+-- the first code above 4 stands where the library finds it, or there is none and it stands at the end
+above_position : (t : List ℕ) → first_above t ≡ position_or_len (λ code. ltb top_code code) t
+above_position t = is_position_or_len first_above (λ code. ltb top_code code) refl (λ x xs. test (leb x top_code)
+    (λ h. rw (h, le-ltb top_code x (leb-true x top_code h)) (omega arith))
+    (λ h. rw (h, lt-ltb top_code x (leb-false x top_code h)) refl)) t
+
+pub first_found : (t : List ℕ) → unwrap_or (position (λ code. ltb top_code code) t) (length t) ≡ first_above t
+first_found t = test (ltb (first_above t) (length t))
+    (λ h. rw (← above_position t, h) refl)
+    (λ h. let m = above_most t in rw (← above_position t, h) (omega (arith, tests)))
+
+-- the rows of the lent bytes as far as E, and zeros beyond
+pub lent_rows : (E U : ℕ) (t : List ℕ) → tab limit (λ e. pick (ltb e E) (tab limit (λ u. pick (ltb u U) (get_or t (e * U + u) 0) 0)) (replicate limit 0)) ≡ rows_of E U t
+lent_rows E U t = tab_ext limit (λ e. pick (ltb e E) (row e) (replicate limit 0)) (λ e. tab limit (lent_code E U t e)) (λ e b. test (ltb e E)
+    (λ h. rw h (tab_ext limit (λ u. pick (ltb u U) (get_or t (e * U + u) 0) 0) (lent_code E U t e) (λ u k. rw h)))
+    (λ h. rw h (replicate_tab {A = ℕ} limit 0 ∙ tab_ext limit (λ u. 0) (lent_code E U t e) (λ u k. rw h))))
+  where
+    row : ℕ → List ℕ
+    row e = tab limit (λ u. pick (ltb u U) (get_or t (e * U + u) 0) 0)
+
+-- what stands in a square
+pub square_at : (f : ℕ → ℕ → ℕ) (e u : ℕ) → e < limit → u < limit → code_at (square f) e u ≡ f e u
+square_at f e u h k = rw (get_or_tab limit (λ x. tab limit (f x)) e [] h) (get_or_tab limit (f e) u 0 k)
 
 -- a table whose bytes were judged, well sized and with no code above 4, has no code above 4 in its rows either
 none_above : (b : List ℕ) → first_above b ≡ length b → (i : ℕ) → i < length b → get_or b i 0 ≤ top_code

@@ -11,3 +11,8 @@ pub const LIMIT: usize = 32;
 
 // The most codes that a table may have.
 pub const CELLS: usize = LIMIT * LIMIT;
+
+// What one equation has at each unknown, and the rows of all equations.
+pub type Row = [u8; LIMIT];
+
+pub type Rows = [Row; LIMIT];

@@ -1,78 +1,86 @@
 // Equation numbers and unknown numbers count separately, each from 1, and one is never used for the other.
-ghost use Rattle.std.specs.Prelude.{◌≡◌, map, ◌+◌, ◌-◌, ◌<◌, ◌≤◌};
+ghost use Rattle.std.specs.Prelude.{◌≡◌, get_or, map, ℕ, ◌+◌, ◌-◌, ◌<◌};
+ghost use Rattle.std.specs.Int.NonZero.{non_zero_u8_get};
 ghost use Rattle.table.specs.Model.{limit};
-ghost use Rattle.table.specs.Number.{equation_number, unknown_number};
+ghost use Rattle.table.specs.Number.{equation_number, unknown_number, or_zero};
 
-use crate::LIMIT;
+use crate::{LIMIT, Row};
+use laws::array::tabulated;
+use std::num::NonZeroU8;
 
-#[derive(Clone, Copy)]
-pub struct Equation(pub u8);
+#[derive(Clone, Copy, PartialEq, Eq, PartialOrd, Ord)]
+pub struct Equation(pub NonZeroU8);
 
-#[derive(Clone, Copy)]
-pub struct Unknown(pub u8);
+#[derive(Clone, Copy, PartialEq, Eq, PartialOrd, Ord)]
+pub struct Unknown(pub NonZeroU8);
 
-impl Equation {
-    // The equation whose row stands at a place counted from 0.
-    pub fn at(place: usize) -> Equation
+// What the two kinds share: each counts the rows or the columns of a table from 1.
+pub trait Counted: Copy {
+    ghost number: { Self → ℕ };
+
+    fn numbered(value: NonZeroU8) -> Self
+        ensures { number result ≡ non_zero_u8_get value };
+
+    fn number(self) -> NonZeroU8
+        ensures { non_zero_u8_get result ≡ number self };
+
+    // The one whose row or column stands at a place counted from 0.
+    final fn at(place: usize) -> Self
         requires { place < limit }
-        ensures { result.0 ≡ place + 1 }
+        ensures { number result ≡ place + 1 }
     {
-        Equation((place + 1) as u8)
+        Self::numbered(NonZeroU8::MIN.saturating_add(place as u8))
     }
 
-    // The place of its row, counted from 0.
-    pub fn place(self) -> usize
-        requires { 1 ≤ self.0 }
-        ensures { result ≡ self.0 - 1 }
+    // The place of its row or column, counted from 0.
+    final fn place(self) -> usize
+        ensures { result ≡ number self - 1 }
     {
-        let number = self.0;
-        (number - 1) as usize
-    }
-
-    // Their numbers alone, for whoever hands them out as bytes.
-    pub fn numbers(equations: [Equation; LIMIT]) -> [u8; LIMIT]
-        ensures { result ≡ map equation_number equations }
-    {
-        let mut numbers = [0u8; LIMIT];
-        let mut i = 0;
-        while i < LIMIT {
-            let equation = equations[i];
-            numbers[i] = equation.0;
-            i += 1;
-        }
-        numbers
+        usize::from(self.number().get()) - 1
     }
 }
 
-impl Unknown {
-    // The unknown whose column stands at a place counted from 0.
-    pub fn at(place: usize) -> Unknown
-        requires { place < limit }
-        ensures { result.0 ≡ place + 1 }
-    {
-        Unknown((place + 1) as u8)
+impl Counted for Equation {
+    ghost number = { equation_number };
+
+    fn numbered(value: NonZeroU8) -> Self {
+        Equation(value)
     }
 
-    // The place of its column, counted from 0.
-    pub fn place(self) -> usize
-        requires { 1 ≤ self.0 }
-        ensures { result ≡ self.0 - 1 }
-    {
-        let number = self.0;
-        (number - 1) as usize
+    fn number(self) -> NonZeroU8 {
+        self.0
+    }
+}
+
+impl Counted for Unknown {
+    ghost number = { unknown_number };
+
+    fn numbered(value: NonZeroU8) -> Self {
+        Unknown(value)
     }
 
-    // Their numbers alone, for whoever hands them out as bytes.
-    pub fn numbers(unknowns: [Unknown; LIMIT]) -> [u8; LIMIT]
-        ensures { result ≡ map unknown_number unknowns }
-    {
-        let mut numbers = [0u8; LIMIT];
-        let mut i = 0;
-        while i < LIMIT {
-            let unknown = unknowns[i];
-            numbers[i] = unknown.0;
-            i += 1;
-        }
-        numbers
+    fn number(self) -> NonZeroU8 {
+        self.0
     }
+}
+
+// The number as a byte, or 0 where there is none.
+pub fn or_zero<N: Counted>(one: Option<N>) -> u8
+    ensures { result ≡ or_zero N.number one }
+{
+    one.map_or(0, |it| it.number().get())
+}
+
+// Their numbers alone, for whoever hands them out as bytes.
+pub fn numbers<N: Counted>(list: [Option<N>; LIMIT]) -> Row
+    ensures { result ≡ map (or_zero N.number) list }
+{
+    tabulated(
+        LIMIT,
+        0,
+        |i| -> u8
+            requires { i < limit }
+            ensures { result ≡ or_zero N.number (get_or list i None) }
+        { or_zero(list[i]) },
+    )
 }

@@ -1,90 +1,79 @@
 // The table held as rows of codes: filled from the lent bytes, read by equation and unknown, and turned.
 ghost use Rattle.std.specs.Prelude.{◌≡◌, ◌+◌, ◌-◌, ◌*◌, ◌<◌, ◌≤◌, length, get_or, ltb, [], true};
 ghost use Rattle.laws.specs.Tab.{tab, pick};
-ghost use Rattle.table.specs.Model.{limit, Numbered, code_at, occurs_at, rows_of, turned, well_sized};
+ghost use Rattle.table.specs.Model.{limit, code_at, occurs_at, rows_of, turned, well_sized};
+ghost use Rattle.table.specs.Number.{equation_number, unknown_number};
 
-use crate::LIMIT;
-use crate::number::{Equation, Unknown};
+use crate::number::{Counted, Equation, Unknown};
+use crate::{LIMIT, Row, Rows};
+use laws::array::tabulated;
 
 // One row: byte e × U + u of the lent table at place u, and 0 beyond the last unknown.
-fn lent_row(unknowns: usize, table: &[u8], at: usize) -> [u8; LIMIT]
+fn lent_row(unknowns: usize, table: &[u8], at: usize) -> Row
     requires { (unknowns ≤ limit) × (at + unknowns ≤ length table.now) }
     ensures { result ≡ tab limit (λ u. pick (ltb u unknowns) (get_or table.now (at + u) 0) 0) }
 {
-    let mut row = [0u8; LIMIT];
-    let mut u = 0;
-    while u < unknowns {
-        row[u] = table[at + u];
-        u += 1;
-    }
-    row
+    tabulated(unknowns, 0, |u| table[at + u])
 }
 
 // The table as rows of codes, from bytes that were judged well sized.
-pub fn filled(equations: usize, unknowns: usize, table: &[u8]) -> [[u8; LIMIT]; LIMIT]
+pub fn filled(equations: usize, unknowns: usize, table: &[u8]) -> Rows
     requires { well_sized equations unknowns table.now ≡ true }
     ensures { result ≡ rows_of equations unknowns table.now }
 {
-    let mut rows = [[0u8; LIMIT]; LIMIT];
-    let mut e = 0;
-    while e < equations {
-        rows[e] = lent_row(unknowns, table, e * unknowns);
-        e += 1;
-    }
-    rows
+    tabulated(
+        equations,
+        [0; LIMIT],
+        |e|
+            requires { (unknowns ≤ limit) × (e * unknowns + unknowns ≤ length table.now) }
+            ensures { result ≡ tab limit (λ u. pick (ltb u unknowns) (get_or table.entry.now (e * unknowns + u) 0) 0) }
+        { lent_row(unknowns, table, e * unknowns) },
+    )
 }
 
 // The code of unknown u in equation e.
-pub fn code(table: &[[u8; LIMIT]; LIMIT], e: Equation, u: Unknown) -> u8
-    requires { Numbered e.0 × Numbered u.0 }
-    ensures { result ≡ code_at table.now (e.0 - 1) (u.0 - 1) }
+pub fn code(table: &Rows, e: Equation, u: Unknown) -> u8
+    requires { (equation_number e ≤ limit) × (unknown_number u ≤ limit) }
+    ensures { result ≡ code_at table.now (equation_number e - 1) (unknown_number u - 1) }
 {
-    let row = e.place();
-    let column = u.place();
-    table[row][column]
+    table[e.place()][u.place()]
 }
 
 // Unknown u occurs in equation e. Code 0 is no order at all: it does not occur.
-pub fn occurs(table: &[[u8; LIMIT]; LIMIT], e: Equation, u: Unknown) -> bool
-    requires { Numbered e.0 × Numbered u.0 }
-    ensures { result ≡ occurs_at table.now (e.0 - 1) (u.0 - 1) }
+pub fn occurs(table: &Rows, e: Equation, u: Unknown) -> bool
+    requires { (equation_number e ≤ limit) × (unknown_number u ≤ limit) }
+    ensures { result ≡ occurs_at table.now (equation_number e - 1) (unknown_number u - 1) }
 {
     code(table, e, u) != 0
 }
 
 // The row of an equation.
-pub fn row(table: &[[u8; LIMIT]; LIMIT], e: Equation) -> [u8; LIMIT]
-    requires { Numbered e.0 }
-    ensures { result ≡ get_or table.now (e.0 - 1) [] }
+pub fn row(table: &Rows, e: Equation) -> Row
+    requires { equation_number e ≤ limit }
+    ensures { result ≡ get_or table.now (equation_number e - 1) [] }
 {
-    let at = e.place();
-    table[at]
+    table[e.place()]
 }
 
 // The column of an unknown, as a row.
-pub fn column(table: &[[u8; LIMIT]; LIMIT], u: Unknown) -> [u8; LIMIT]
-    requires { Numbered u.0 }
-    ensures { result ≡ tab limit (λ e. code_at table.now e (u.0 - 1)) }
+pub fn column(table: &Rows, u: Unknown) -> Row
+    requires { unknown_number u ≤ limit }
+    ensures { result ≡ tab limit (λ e. code_at table.now e (unknown_number u - 1)) }
 {
     let at = u.place();
-    let mut column = [0u8; LIMIT];
-    let mut e = 0;
-    while e < LIMIT {
-        column[e] = table[e][at];
-        e += 1;
-    }
-    column
+    tabulated(LIMIT, 0, |e| table[e][at])
 }
 
 // The table with equations and unknowns exchanged.
-pub fn transposed(table: &[[u8; LIMIT]; LIMIT]) -> [[u8; LIMIT]; LIMIT]
+pub fn transposed(table: &Rows) -> Rows
     ensures { result ≡ turned table.now }
 {
-    let mut rows = [[0u8; LIMIT]; LIMIT];
-    let mut u = 0;
-    while u < LIMIT {
-        rows[u] = column(table, Unknown::at(u));
-        u += 1;
-    }
-    rows
+    tabulated(
+        LIMIT,
+        [0; LIMIT],
+        |u|
+            requires { u < limit }
+            ensures { result ≡ tab limit (λ e. code_at table.entry.now e u) }
+        { column(table, Unknown::at(u)) },
+    )
 }

@@ -1,5 +1,6 @@
 -- `card::lay::put_occurs` meets its contract: its parts, one behind another.
 use native.Mathlib.Omega.{arith}
+use mathlib.Core.Path.{◌∙◌}
 use mathlib.Core.List.{[], ◌∷◌}
 use lib.ListN.{length-append}
 use Rattle.card.specs.Text.{comma, dec}
@@ -9,7 +10,7 @@ use Rattle.card.proofs.lay.put_occurs.Goals as goal
 
 pub put_comma-behind_unknown-requires : goal.put_comma-behind_unknown-requires
 put_comma-behind_unknown-requires c =
-    let e = c.args.equation.0 in
+    let e = c.from.result in
     omega (
       arith,
       c.put_comma-behind_equation.ensures.place,
@@ -21,8 +22,8 @@ put_comma-behind_unknown-requires c =
 
 pub put_number-behind_order-requires : goal.put_number-behind_order-requires
 put_number-behind_order-requires c =
-    let e = c.args.equation.0 in
-    let u = c.args.unknown.0 in
+    let e = c.from.result in
+    let u = c.from-2.result in
     omega (
       arith,
       c.put_comma-behind_unknown.ensures.place,
@@ -37,8 +38,8 @@ put_number-behind_order-requires c =
 
 pub put-requires : goal.put-requires
 put-requires c =
-    let e = c.args.equation.0 in
-    let u = c.args.unknown.0 in
+    let e = c.from.result in
+    let u = c.from-2.result in
     let k = c.args.order in
     omega (
       arith,
@@ -55,9 +56,11 @@ put-requires c =
     )
 
 pub returns : goal.returns
-returns c = laid_same (occurs_parts c.args.equation.0
-    c.args.unknown.0
+returns c =
+    rw (← c.from.ensures ∙ c.get.ensures.value ∙ c.number.ensures, ← c.from-2.ensures ∙ c.get-2.ensures.value ∙ c.number-2.ensures)
+    (laid_same (occurs_parts c.from.result
+    c.from-2.result
     c.args.order)
     (laid_then (laid_then (laid_then (laid_then c.put_all-behind_key.ensures
     c.put_comma-behind_equation.ensures) c.put_comma-behind_unknown.ensures)
-    c.put_number-behind_order.ensures) c.put.ensures)
+    c.put_number-behind_order.ensures) c.put.ensures))
