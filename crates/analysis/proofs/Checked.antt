@@ -25,7 +25,11 @@ use Rattle.blocks.proofs.ReachTables.{needs_within}
 use Rattle.analysis.specs.Outcome.{packed, strips, answer_bytes, refusal, Solved, Singular, Verdict}
 use Rattle.analysis.specs.Written.{places_of}
 use Rattle.analysis.specs.Models.{Row, Holds, Every, models}
-use Rattle.analysis.proofs.Finite.{is_not, all_true, all_true_at, same, same_is}
+use Rattle.std.specs.Prelude.{nat_eq}
+use Rattle.std.specs.Cmp.Lexicographic.{pointwise, same_text}
+use Rattle.std.proofs.lemmas.Bool.{not-true}
+use Rattle.analysis.proofs.Finite.{all_true, all_true_at}
+use Rattle.analysis.proofs.Verdicts.{paired_square, paired_all}
 use Rattle.analysis.proofs.RankBy.{pairs_in, is_pairing, is_pairing_lem, is_largest, rank_is, surplus_are, unfixed_are}
 use Rattle.analysis.proofs.LeastBy.{is_partners, is_partners_lem, is_over, is_least, is_least_lem}
 use Rattle.analysis.proofs.FirstBy.{is_first, is_first_lem}
@@ -45,8 +49,8 @@ solved_tests n edge ord rank r =
     ∷ eqb (length (places_of r.strip3)) n
     ∷ eqb (length (places_of r.strip4)) n
     ∷ eqb (length r.strip5) n
-    ∷ same r.strip3 (map suc (places_of r.strip3))
-    ∷ same r.strip4 (map suc (places_of r.strip4))
+    ∷ pointwise nat_eq r.strip3 (map suc (places_of r.strip3))
+    ∷ pointwise nat_eq r.strip4 (map suc (places_of r.strip4))
     ∷ is_over n edge ord (number_at r.strip1) (number_at r.strip2)
     ∷ is_partners n (lead_in edge ord r) (number_at (places_of r.strip3))
     ∷ is_least n (lead_in edge ord r) (number_at r.strip1) (number_at (places_of r.strip3))
@@ -77,7 +81,7 @@ solved n edge ord rank r behind t = record {
   };
   says = eqb-true r.number (packed 0 0 rank (index_of n (number_at r.strip1)) (freedom_of n n (number_at r.strip1) (number_at r.strip2))
       (before (number_at r.strip5) n)) (at 12);
-  holds = numbered (same_is r.strip3 (map suc (places_of r.strip3)) (at 5)) (same_is r.strip4 (map suc (places_of r.strip4)) (at 6));
+  holds = numbered (same_text r.strip3 (map suc (places_of r.strip3)) (sym (at 5))) (same_text r.strip4 (map suc (places_of r.strip4)) (sym (at 6)));
 }
   where
     at : (i : ℕ) → get_or (solved_tests n edge ord rank r) i true ≡ true
@@ -95,11 +99,11 @@ solved n edge ord rank r behind t = record {
 -- the row's strips, read as a singular answer, are one; M a largest pairing
 abbrev singular_tests : ℕ → ℕ → Rel → Rel → Row → List Bool
 singular_tests E U edge M r =
-    same r.strip1 (map suc (members E (marked (overs E U edge M))))
-    ∷ same r.strip2 (map suc (members U (marked (overs U E (turn edge) (turn M)))))
-    ∷ same r.strip3 []
-    ∷ same r.strip4 []
-    ∷ same r.strip5 []
+    pointwise nat_eq r.strip1 (map suc (members E (marked (overs E U edge M))))
+    ∷ pointwise nat_eq r.strip2 (map suc (members U (marked (overs U E (turn edge) (turn M)))))
+    ∷ pointwise nat_eq r.strip3 []
+    ∷ pointwise nat_eq r.strip4 []
+    ∷ pointwise nat_eq r.strip5 []
     ∷ eqb r.number (packed 10 0 (size E U M) 0 0 0)
     ∷ []
 
@@ -113,9 +117,9 @@ singular E U edge M r behind k a b t = record {
     all_unfixed = unfixed_are E U edge M k b;
   };
   says = eqb-true r.number (packed 10 0 (size E U M) 0 0 0) (at 5);
-  holds = listed (same_is r.strip1 (map suc (members E (marked (overs E U edge M)))) (at 0))
-      (same_is r.strip2 (map suc (members U (marked (overs U E (turn edge) (turn M))))) (at 1))
-      (same_is r.strip3 [] (at 2)) (same_is r.strip4 [] (at 3)) (same_is r.strip5 [] (at 4));
+  holds = listed (same_text r.strip1 (map suc (members E (marked (overs E U edge M)))) (sym (at 0)))
+      (same_text r.strip2 (map suc (members U (marked (overs U E (turn edge) (turn M))))) (sym (at 1)))
+      (same_text r.strip3 [] (sym (at 2))) (same_text r.strip4 [] (sym (at 3))) (same_text r.strip5 [] (sym (at 4)));
 }
   where
     at : (i : ℕ) → get_or (singular_tests E U edge M r) i true ≡ true
@@ -165,7 +169,7 @@ module _ (edge : Rel) (ord : ℕ → ℕ → ℕ) (l : List ℕ) (r : Row) (t : 
     ranked = rank_is E U edge M k (at 1);
     solvable = λ p q. solved E edge ord (size E U M) r behind (full (and_both (eq-eqb E U p) (eq-eqb (size E U M) E q)));
     singular = λ n. singular E U edge M r behind k (at 1) (at 2) (short (not_true (λ w.
-        n (eqb-true E U (and_left (eqb E U) (eqb (size E U M) E) w)) (eqb-true (size E U M) E (and_right (eqb E U) (eqb (size E U M) E) w)))));
+        n (paired_square E U (size E U M) w) (paired_all E U (size E U M) w))));
   }
 
 -- within the limits the rows have the lent codes, and nothing else
@@ -196,7 +200,7 @@ not_refused r t before h =
     let b = eqb (length r.table) (r.equations * r.unknowns) in
     let c = ltb (first_above r.table) (length r.table) in
     let s = and_right a (b && not c) t in
-    rw (and_left a (b && not c) t, and_left b (not c) s, le-ltb (length before) answer_bytes h, is_not c (and_right b (not c) s)) refl
+    rw (and_left a (b && not c) t, and_left b (not c) s, le-ltb (length before) answer_bytes h, not-true c (and_right b (not c) s)) refl
 
 -- the test of a row, with a pairing: for each equation the number of its unknown, or 0
 abbrev row_test : Row → List ℕ → Bool

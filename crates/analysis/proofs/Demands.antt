@@ -9,7 +9,7 @@ use native.Mathlib.Omega.{arith}
 use lib.Dec.{eqb}
 use lib.ListN.{length}
 use borrow.Author.Tests.{eqb-true, eqb-false, eq-eqb}
-use Rattle.laws.proofs.Tests.{test, either, given, clash, and_left, and_right, and_both}
+use Rattle.laws.proofs.Tests.{test, either, given, clash, and_both}
 use Rattle.table.specs.Model.{occurs_at, rows_of}
 use Rattle.pairing.specs.Pairing.{Rank, Solvable, Listed}
 use Rattle.pairing.specs.Contained.{unknowns_in}
@@ -18,11 +18,12 @@ use Rattle.pairing.proofs.Solve.{solvable_rank, solvable_none}
 use Rattle.pairing.proofs.Deficit.{listed_deficit}
 use Rattle.analysis.specs.Outcome.{code_in, rank_in, refusal, Reply}
 use Rattle.analysis.proofs.Packed.{refusal_most, reads_back}
+use Rattle.analysis.proofs.Verdicts.{paired_square, paired_all}
 
 -- E = U = rank, or not
 square : (E U rank : ℕ) → ((E ≡ U) × (rank ≡ E)) ⊎ (E ≡ U → rank ≡ E → ⊥)
 square E U rank = test (eqb E U && eqb rank E)
-    (λ w. inl (eqb-true E U (and_left (eqb E U) (eqb rank E) w), eqb-true rank E (and_right (eqb E U) (eqb rank E) w)))
+    (λ w. inl (paired_square E U rank w, paired_all E U rank w))
     (λ w. inr (λ p q. clash (and_both (eq-eqb E U p) (eq-eqb rank E q)) w))
 
 module _ {E U : ℕ} {t before : List ℕ} {number : ℕ} {after : List ℕ} (r : Reply E U t before number after) where

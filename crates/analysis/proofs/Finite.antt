@@ -1,6 +1,6 @@
--- Tests that antt computes, and what each says: of all numbers below a bound, of a list of tests, of two lists.
-use mathlib.Core.Path.{◌≡◌, refl, sym}
-use mathlib.Core.Bool.{Bool, true, false, not, ◌&&◌}
+-- Tests that antt computes, and what each says: of all numbers below a bound, of a list of tests.
+use mathlib.Core.Path.{◌≡◌, refl}
+use mathlib.Core.Bool.{Bool, true, ◌&&◌}
 use mathlib.Core.List.{List, [], ◌∷◌}
 use Prim.Native.Nat.{ℕ, zero, suc, ◌<◌}
 use native.Mathlib.Omega.{arith}
@@ -8,7 +8,7 @@ use lib.Dec.{eqb}
 use lib.ListN.{get_or}
 use borrow.Author.Tests.{eqb-true}
 use Rattle.laws.specs.Tab.{pick}
-use Rattle.laws.proofs.Tests.{test, tests, clash, true≢false, and_left, and_right, and_both}
+use Rattle.laws.proofs.Tests.{test, tests, and_left, and_right, and_both}
 
 -- every i below n has p i
 abbrev pub all : ℕ → (ℕ → Bool) → Bool
@@ -32,9 +32,6 @@ all2 m n p = all m (λ i. all n (p i))
 pub all2_at : {m n : ℕ} (p : ℕ → ℕ → Bool) → all2 m n p ≡ true → (i j : ℕ) → i < m → j < n → p i j ≡ true
 all2_at {m} {n} p t i j h k = all_at (p i) (all_at (λ x. all n (p x)) t i h) j k
 
-pub is_not : (b : Bool) → not b ≡ true → b ≡ false
-is_not b n = test b (λ t. clash n (rw t refl)) (λ f. f)
-
 -- where the first holds, so does the second
 abbrev pub implies : Bool → Bool → Bool
 implies a b = pick a b true
@@ -51,19 +48,3 @@ pub all_true_at : (l : List Bool) → all_true l ≡ true → (i : ℕ) → get_
 all_true_at [] t i = refl
 all_true_at (b ∷ bs) t zero = and_left b (all_true bs) t
 all_true_at (b ∷ bs) t (suc i) = all_true_at bs (and_right b (all_true bs) t) i
-
--- two lists of numbers are the same
-abbrev pub same : List ℕ → List ℕ → Bool
-same [] [] = true
-same [] (y ∷ ys) = false
-same (x ∷ xs) [] = false
-same (x ∷ xs) (y ∷ ys) = eqb x y && same xs ys
-
-pub same_is : (l l' : List ℕ) → same l l' ≡ true → l ≡ l'
-same_is [] [] t = refl
-same_is [] (y ∷ ys) t = absurd (true≢false (sym t))
-same_is (x ∷ xs) [] t = absurd (true≢false (sym t))
-same_is (x ∷ xs) (y ∷ ys) t =
-    let a = eqb-true x y (and_left (eqb x y) (same xs ys) t) in
-    let b = same_is xs ys (and_right (eqb x y) (same xs ys) t) in
-    cc

@@ -13,7 +13,8 @@ use Rattle.laws.proofs.Tests.{test, tests, given, clash, and_left, and_right, an
 use Rattle.laws.proofs.Inject.{onto}
 use Rattle.pairing.specs.Pairing.{Rel}
 use Rattle.pairing.specs.First.{Partners, First}
-use Rattle.analysis.proofs.Finite.{all, all_at, is_not}
+use Rattle.std.proofs.lemmas.Bool.{not-true}
+use Rattle.analysis.proofs.Finite.{all, all_at}
 use Rattle.laws.proofs.Closure.{closure, closure_only, closure_start, closure_closed}
 use Rattle.analysis.proofs.LeastBy.{partner_of_lem}
 
@@ -79,7 +80,7 @@ module _ (n : ℕ) (edge : Rel) (p : ℕ → ℕ) (k : Partners n n edge p) (q :
       (and_both (lt-ltb e g other) (and_both (rw (sym s) at (j.fits e h)) (lt-ltb (p g) (p e) (omega arith)))) in
       given (onto n C gives alone into g l member) (λ (a, b, c, r).
       let z : a ≡ e = same_q a e b h ((gives_is a g r).1 ∙ s) in
-      clash (rw z at c) (is_not (C e) t)))
+      clash (rw z at c) (not-true (C e) t)))
 
 pub is_first_lem : (n : ℕ) (edge : Rel) (p : ℕ → ℕ) → Partners n n edge p → is_first n edge p ≡ true → First n n edge p
 is_first_lem n edge p k t = record {

@@ -5,13 +5,12 @@ use mathlib.Core.List.{List, [], ◌∷◌, ◌++◌, map}
 use Prim.Native.Nat.{ℕ, suc, ◌-◌, ◌<◌, ◌≤◌}
 use native.Mathlib.Omega.{arith}
 use lib.Dec.{ltb}
-use lib.ListN.{length, get_or, take, drop, length-take, length-map, get_or-map, get_or-eq_default}
+use lib.ListN.{length, take, drop, length-take, length-map, get_or-map, get_or-eq_default}
 use lib.Seq.{get_or-take, length-take-le}
 use borrow.Author.Tests.{ltb-true}
 use Rattle.laws.proofs.Tests.{test, tests}
 use Rattle.table.specs.Model.{limit, occurs_at, order_at}
-use Rattle.table.specs.declared.number.Equation.{Equation}
-use Rattle.table.specs.declared.number.Unknown.{Unknown}
+use Rattle.analysis.specs.declared.solvable.Solution.{Solution}
 use Rattle.pairing.specs.Pairing.{Rel}
 use Rattle.pairing.specs.First.{Partners, First}
 use Rattle.pairing.specs.Handed.{partner_of}
@@ -23,7 +22,8 @@ use Rattle.blocks.specs.Blocks.{needs_at, Placed}
 use Rattle.blocks.specs.Handed.{partner_at}
 use Rattle.analysis.specs.Outcome.{packed, strips, answer_bytes, Solved}
 use Rattle.analysis.specs.Written.{places_of, SolutionIs}
-use Rattle.table.specs.Number.{equation_number, unknown_number}
+use Rattle.table.specs.Number.{equation_number, unknown_number, or_zero, equation_at}
+use Rattle.std.specs.declared.option.Option.TheVariants.{None}
 
 -- the first n of a list that is 0 beyond them
 front_is : (n : ℕ) (l : List ℕ) → ((i : ℕ) → n ≤ i → number_at l i ≡ 0) → number_at (take n l) ≡ number_at l
@@ -76,84 +76,83 @@ needs_alike n {A} {B} p same col = fun_ext (λ f. fun_ext (λ g. test (ltb f n)
     (λ s. rw (t, s) refl))
     (λ t. rw t refl)))
 
-module _ (n : ℕ) (t : List (List ℕ)) (counts tops : List ℕ) (partners : List Unknown) (order : List Equation) (block : List ℕ) (index freedom blocks : ℕ)
-    (s : SolutionIs n t counts tops partners order block index freedom blocks) where
-  alike : (e u : ℕ) → e < n → u < n → occurs_at (leading_rows n t counts tops) e u ≡ leading_at t counts tops e u
-  alike = rows_lead n t counts tops s.within
+module _ (n : ℕ) (t : List (List ℕ)) (w : Solution) (s : SolutionIs n t w) where
+  alike : (e u : ℕ) → e < n → u < n → occurs_at (leading_rows n t w.counts w.tops) e u ≡ leading_at t w.counts w.tops e u
+  alike = rows_lead n t w.counts w.tops s.within
 
   -- the arrays' first n places, as functions
-  counts_are : number_at counts ≡ number_at (take n counts)
-  counts_are = sym (front_is n counts s.counts_beyond)
+  counts_are : number_at w.counts ≡ number_at (take n w.counts)
+  counts_are = sym (front_is n w.counts s.counts_beyond)
 
-  tops_are : number_at tops ≡ number_at (take n tops)
-  tops_are = sym (front_is n tops s.tops_beyond)
+  tops_are : number_at w.tops ≡ number_at (take n w.tops)
+  tops_are = sym (front_is n w.tops s.tops_beyond)
 
-  block_is : number_at block ≡ number_at (take n block)
-  block_is = sym (front_is n block s.placed.no_block)
+  block_is : number_at w.block ≡ number_at (take n w.block)
+  block_is = sym (front_is n w.block s.placed.no_block)
 
-  unknown_at_lem : (e : ℕ) → number_at (map unknown_number partners) e ≡ partner_of partners e
-  unknown_at_lem e = get_or-map unknown_number partners e (record { 0 = 0 })
+  unknown_at_lem : (e : ℕ) → number_at (map (or_zero unknown_number) w.partners) e ≡ partner_of w.partners e
+  unknown_at_lem e = get_or-map (or_zero unknown_number) w.partners e None
 
-  equation_at_lem : (i : ℕ) → number_at (map equation_number order) i ≡ (get_or order i (record { 0 = 0 })).0
-  equation_at_lem i = get_or-map equation_number order i (record { 0 = 0 })
+  equation_at_lem : (i : ℕ) → number_at (map (or_zero equation_number) w.order) i ≡ equation_at w.order i
+  equation_at_lem i = get_or-map (or_zero equation_number) w.order i None
 
-  partner_is : partner_at partners ≡ number_at (places_of (take n (map unknown_number partners)))
+  partner_is : partner_at w.partners ≡ number_at (places_of (take n (map (or_zero unknown_number) w.partners)))
   partner_is = fun_ext (λ e. ap (λ x. x - 1) (sym (unknown_at_lem e)))
-      ∙ sym (places_are n (map unknown_number partners) (λ e h. unknown_at_lem e ∙ s.first.beyond e h))
+      ∙ sym (places_are n (map (or_zero unknown_number) w.partners) (λ e h. unknown_at_lem e ∙ s.first.beyond e h))
 
-  order_is : (λ i. (get_or order i (record { 0 = 0 })).0 - 1) ≡ number_at (places_of (take n (map equation_number order)))
+  order_is : (λ i. equation_at w.order i - 1) ≡ number_at (places_of (take n (map (or_zero equation_number) w.order)))
   order_is = fun_ext (λ i. ap (λ x. x - 1) (sym (equation_at_lem i)))
-      ∙ sym (places_are n (map equation_number order) (λ i h. equation_at_lem i ∙ s.placed.no_equation i h))
+      ∙ sym (places_are n (map (or_zero equation_number) w.order) (λ i h. equation_at_lem i ∙ s.placed.no_equation i h))
 
-  firsts : First n n (leading_at t counts tops) (partner_at partners)
+  firsts : First n n (leading_at t w.counts w.tops) (partner_at w.partners)
   firsts = first_alike alike s.first.first
 
-  places : Placed n (needs_at n (leading_at t counts tops) (partner_at partners)) (λ i. (get_or order i (record { 0 = 0 })).0 - 1) (number_at block) blocks
-  places = subst (λ (R : Rel). Placed n R (λ i. (get_or order i (record { 0 = 0 })).0 - 1) (number_at block) blocks)
-      (needs_alike n (partner_at partners) alike s.first.first.ok.col) s.placed.placed
+  places : Placed n (needs_at n (leading_at t w.counts w.tops) (partner_at w.partners)) (λ i. equation_at w.order i - 1) (number_at w.block) w.blocks
+  places = subst (λ (R : Rel). Placed n R (λ i. equation_at w.order i - 1) (number_at w.block) w.blocks)
+      (needs_alike n (partner_at w.partners) alike s.first.first.ok.col) s.placed.placed
 
   abbrev lead : (ℕ → ℕ) → (ℕ → ℕ) → Rel
   lead = leading (occurs_at t) (order_at t)
 
-  partner_from_one : (e : ℕ) → e < n → 1 ≤ number_at (map unknown_number partners) e
+  partner_from_one : (e : ℕ) → e < n → 1 ≤ number_at (map (or_zero unknown_number) w.partners) e
   partner_from_one e h = rw (unknown_at_lem e) (s.first.numbered e h)
 
-  order_from_one : (i : ℕ) → i < n → 1 ≤ number_at (map equation_number order) i
+  order_from_one : (i : ℕ) → i < n → 1 ≤ number_at (map (or_zero equation_number) w.order) i
   order_from_one i h = rw (equation_at_lem i) (s.placed.numbers i h)
 
   long : (l : List ℕ) → length l ≡ limit → length (take n l) ≡ n
-  long l e = let w = s.within in length-take-le n l (omega arith)
+  long l e = let few = s.within in length-take-le n l (omega arith)
 
   pub is_solved : (before : List ℕ) {number : ℕ} {after : List ℕ}
-      → (length counts ≡ limit) × (length tops ≡ limit) × (length block ≡ limit)
-      → number ≡ packed 0 0 n index freedom blocks
-      → after ≡ strips (take n counts) (take n tops) (take n (map unknown_number partners)) (take n (map equation_number order)) (take n block)
+      → (length w.counts ≡ limit) × (length w.tops ≡ limit) × (length w.block ≡ limit)
+      → number ≡ packed 0 0 n w.index w.freedom w.blocks
+      → after ≡ strips (take n w.counts) (take n w.tops) (take n (map (or_zero unknown_number) w.partners)) (take n (map (or_zero equation_number) w.order)) (take n w.block)
       ++ drop answer_bytes before
       → Solved n (occurs_at t) (order_at t) n before number after
   is_solved before (lc, lt, lb) q r = record {
     worked = record {
-      counts = take n counts;
-      tops = take n tops;
-      partner = places_of (take n (map unknown_number partners));
-      order = places_of (take n (map equation_number order));
-      block = take n block;
-      blocks = blocks;
+      counts = take n w.counts;
+      tops = take n w.tops;
+      partner = places_of (take n (map (or_zero unknown_number) w.partners));
+      order = places_of (take n (map (or_zero equation_number) w.order));
+      block = take n w.block;
+      blocks = w.blocks;
       sizes = (
-        long counts lc,
-        long tops lt,
-        front_places n (map unknown_number partners) partner_from_one,
-        front_places n (map equation_number order) order_from_one,
-        long block lb,
+        long w.counts lc,
+        long w.tops lt,
+        front_places n (map (or_zero unknown_number) w.partners) partner_from_one,
+        front_places n (map (or_zero equation_number) w.order) order_from_one,
+        long w.block lb,
       );
       least = subst₂ (λ (c d : ℕ → ℕ). Least n n (occurs_at t) (order_at t) c d) counts_are tops_are s.least;
       first = subst₃ (λ (c d p : ℕ → ℕ). First n n (lead c d) p) counts_are tops_are partner_is firsts;
-      placed = subst₃ (λ (c d p : ℕ → ℕ). Placed n (needs_at n (lead c d) p) (number_at (places_of (take n (map equation_number order)))) (number_at (take n block)) blocks)
+      placed = subst₃ (λ (c d p : ℕ → ℕ). Placed n (needs_at n (lead c d) p) (number_at (places_of (take n (map (or_zero equation_number) w.order)))) (number_at (take n w.block)) w.blocks)
           counts_are tops_are partner_is
-          (subst₂ (λ (o b : ℕ → ℕ). Placed n (needs_at n (leading_at t counts tops) (partner_at partners)) o b blocks) order_is block_is places);
+          (subst₂ (λ (o b : ℕ → ℕ). Placed n (needs_at n (leading_at t w.counts w.tops) (partner_at w.partners)) o b w.blocks) order_is block_is places);
     };
-    says = q ∙ ap₂ (λ (i f : ℕ). packed 0 0 n i f blocks) (s.is_index ∙ ap (λ (c : ℕ → ℕ). index_of n c) counts_are)
+    says = q ∙ ap₂ (λ (i f : ℕ). packed 0 0 n i f w.blocks) (s.is_index ∙ ap (λ (c : ℕ → ℕ). index_of n c) counts_are)
         (s.is_freedom ∙ ap₂ (λ (c d : ℕ → ℕ). freedom_of n n c d) counts_are tops_are);
-    holds = r ∙ ap₂ (λ (p o : List ℕ). strips (take n counts) (take n tops) p o (take n block) ++ drop answer_bytes before)
-        (sym (front_back n (map unknown_number partners) partner_from_one))
-        (sym (front_back n (map equation_number order) order_from_one));
+    holds = r ∙ ap₂ (λ (p o : List ℕ). strips (take n w.counts) (take n w.tops) p o (take n w.block) ++ drop answer_bytes before)
+        (sym (front_back n (map (or_zero unknown_number) w.partners) partner_from_one))
+        (sym (front_back n (map (or_zero equation_number) w.order) order_from_one));
   }

@@ -1,52 +1,36 @@
--- A strip is filled one number after another: writing at the first unused place adds the number at the end of the strip's list.
+-- A strip is a list's numbers with unused places behind them, and writing at the first unused place adds the number at the end of the list.
 use mathlib.Core.Path.{◌≡◌, refl, sym, ap, ◌∙◌}
-use mathlib.Core.Bool.{Bool, true, false}
-use mathlib.Core.List.{List, [], ◌∷◌, ◌++◌, map, map-append}
-use Prim.Native.Nat.{ℕ, suc, ◌+◌, ◌<◌, ◌≤◌}
+use mathlib.Core.Bool.{Bool, true, false, cond}
+use mathlib.Core.List.{List, [], ◌∷◌, ◌++◌, map, map-append, append-nil}
 use native.Mathlib.Numerals.{add-one}
+use Prim.Native.Nat.{ℕ, zero, suc, ◌+◌, ◌-◌, ◌<◌, ◌≤◌}
 use native.Mathlib.Omega.{arith}
 use lib.Dec.{eqb, ltb}
-use lib.ListN.{length, get_or, take, set, length-set, length-append, length-map, get_or-append, get_or-eq_default}
-use lib.Seq.{get_or-set_same, get_or-set_other, get_or-append_seam, length-take-le, take-suc}
-use borrow.Author.Tests.{eqb-true, eqb-false, ltb-true}
-use Rattle.laws.specs.Tab.{tab, upto}
-use Rattle.laws.proofs.Tests.{test, tests}
-use Rattle.laws.proofs.Tab.{length_tab, get_or_tab, is_tab, fill_start, fill_step, fill_end}
-use Rattle.table.specs.Model.{limit}
+use lib.ListN.{length, get_or, take, drop, set, replicate, length-set, length-append, length-map, length-drop, get_or-append, get_or-eq_default}
+use lib.Seq.{get_or-set_same, get_or-set_other, get_or-append_seam, length-take-le}
+use Rattle.std.proofs.lemmas.List.{get_or-drop, map-id}
+use Rattle.std.proofs.lemmas.Simd.{map-map}
+use Rattle.std.proofs.lemmas.List.FromFn.{length-enumerate_from, get_or-enumerate_from, filter_of_map_range_with_len_more}
+use Rattle.std.proofs.Math.Seq.{get_or-append_right}
+use Rattle.std.proofs.lemmas.Grind.{get_or_default_zero}
+use Rattle.std.specs.List.{filter, range_with_len, enumerate_from}
 use Rattle.pairing.specs.Members.{members}
 use Rattle.pairing.proofs.Lists.{members_zero, members_yes, members_not, members_within}
+use borrow.Author.Tests.{eqb-true, eqb-false, ltb-true}
+use Rattle.laws.proofs.Tests.{test, tests}
+use Rattle.laws.proofs.Tab.{length_tab, get_or_tab, is_tab, replicate_tab}
+use Rattle.table.specs.Model.{limit}
 use Rattle.analysis.specs.Outcome.{unused, strip}
 
 pub strip_length : (l : List ℕ) → length (strip l) ≡ limit
 strip_length l = length_tab limit (λ i. get_or l i unused)
 
--- a stretch l₀ of which the places below i are cleared
-pub record Clearing (l₀ l : List ℕ) (i : ℕ) : Type 0 where
-  pub within : i ≤ limit
-  pub long : length l ≡ limit
-  pub is : l ≡ tab limit (upto i (λ _. unused) (λ k. get_or l₀ k 0))
-
-pub clearing_start : (l : List ℕ) → length l ≡ limit → Clearing l l 0
-clearing_start l e = record {
-  within = omega arith;
-  long = e;
-  is = is_tab l 0 limit (λ k. get_or l k 0) e (λ k h. refl) ∙ fill_start limit (λ _. unused) (λ k. get_or l k 0);
-}
-
-pub clearing_step : {l₀ l : List ℕ} {i : ℕ} → Clearing l₀ l i → i < limit → Clearing l₀ (set l i unused) (i + 1)
-clearing_step {l₀} {l} {i} c h = record {
-  within = omega arith;
-  long = length-set l i unused ∙ c.long;
-  is = rw c.is (fill_step limit i (λ _. unused) (λ k. get_or l₀ k 0) h);
-}
-
-pub clearing_end : {l₀ l : List ℕ} {i : ℕ} → Clearing l₀ l i → limit ≤ i → l ≡ strip []
-clearing_end {l₀} {l} {i} c h =
-    let e : i ≡ limit = omega arith in
-    c.is ∙ (rw e (fill_end limit (λ _. unused) (λ k. get_or l₀ k 0)))
+-- a stretch whose every place is unused
+pub strip_none : {l : List ℕ} (n : ℕ) → n ≡ limit → l ≡ replicate n unused → l ≡ strip []
+strip_none n e f = f ∙ (rw e (replicate_tab limit unused))
 
 -- writing behind the strip's list adds to it
-strip_add : (l : List ℕ) (x : ℕ) → length l < limit → set (strip l) (length l) x ≡ strip (l ++ x ∷ [])
+pub strip_add : (l : List ℕ) (x : ℕ) → length l < limit → set (strip l) (length l) x ≡ strip (l ++ x ∷ [])
 strip_add l x h = is_tab (set (strip l) (length l) x) 0 limit (λ i. get_or (l ++ x ∷ []) i unused) (length-set (strip l) (length l) x ∙ strip_length l) each
   where
     each : (k : ℕ) → k < limit → get_or (set (strip l) (length l) x) k 0 ≡ get_or (l ++ x ∷ []) k unused
@@ -57,54 +41,65 @@ strip_add l x h = is_tab (set (strip l) (length l) x) 0 limit (λ i. get_or (l +
         (λ s. get_or-eq_default l unused (omega (arith, tests))
         ∙ sym (get_or-eq_default (l ++ x ∷ []) unused (omega (arith, tests, length-append l (x ∷ []))))))
 
--- a stretch that holds the first i numbers of L
-pub record Filling (L l : List ℕ) (i : ℕ) : Type 0 where
-  pub within : i ≤ limit
-  pub is : l ≡ strip (take i L)
+-- a list laid over the front of an unused strip
+pub strip_over : (l : List ℕ) → length l ≤ limit → l ++ drop (length l) (strip []) ≡ strip l
+strip_over l h = is_tab (l ++ drop (length l) (strip [])) 0 limit (λ i. get_or l i unused)
+    (omega (arith, length-append l (drop (length l) (strip [])), length-drop (length l) (strip []), strip_length [])) each
+  where
+    each : (k : ℕ) → k < limit → get_or (l ++ drop (length l) (strip [])) k 0 ≡ get_or l k unused
+    each k b = test (ltb k (length l))
+        (λ t. get_or-append l (drop (length l) (strip [])) 0 k (ltb-true k (length l) t) ∙ sym (get_or_default_zero l k unused (ltb-true k (length l) t)))
+        (λ t. get_or-append_right l (drop (length l) (strip [])) k 0 (omega (arith, tests))
+        ∙ get_or-drop (length l) (strip []) (k - length l) 0
+        ∙ get_or_tab limit (λ i. unused) (length l + (k - length l)) 0 (omega (arith, tests))
+        ∙ sym (get_or-eq_default l unused (omega (arith, tests))))
 
-pub filling_long : {L l : List ℕ} {i : ℕ} → Filling L l i → length l ≡ limit
-filling_long {L} {l} {i} f = ap length f.is ∙ strip_length (take i L)
+pub strip_front : (n : ℕ) (l : List ℕ) → length l ≡ limit → n ≤ limit → take n l ++ drop n (strip []) ≡ strip (take n l)
+strip_front n l e h =
+    let m : length (take n l) ≡ n = length-take-le n l (omega arith) in
+    ap (λ k. take n l ++ drop k (strip [])) (sym m) ∙ strip_over (take n l) (omega arith)
 
-pub filling_start : (L : List ℕ) {l : List ℕ} → l ≡ strip [] → Filling L l 0
-filling_start L e = record { within = omega arith; is = e }
+-- the members below n are what a filter leaves of the numbers below n
+filter_more : (n : ℕ) (p : ℕ → Bool) → filter p (range_with_len 0 (suc n)) ≡ filter p (range_with_len 0 n) ++ cond (p n) (n ∷ []) []
+filter_more n p = ap (λ m. filter p (range_with_len 0 m)) (sym (add-one n)) ∙ ap (filter p) (sym (map-id (range_with_len 0 (n + 1))))
+    ∙ filter_of_map_range_with_len_more p (λ i. i) 0 n n (omega arith) ∙ ap (λ l. filter p l ++ cond (p n) (n ∷ []) []) (map-id (range_with_len 0 n))
 
-pub filling_step : {L l : List ℕ} {i : ℕ} → length L ≡ limit → Filling L l i → i < limit → Filling L (set l i (get_or L i 0)) (i + 1)
-filling_step {L} {l} {i} e f h =
-    let n : length (take i L) ≡ i = length-take-le i L (omega arith) in
-    let s = strip_add (take i L) (get_or L i 0) (omega arith) in
-    record { within = omega arith; is = rw (f.is, add-one i, take-suc L i 0 (omega arith)) (rw n at s) }
+members_filter : (n : ℕ) (p : ℕ → Bool) → filter p (range_with_len 0 n) ≡ members n p
+members_filter zero p = sym (members_zero p)
+members_filter (suc n) p =
+    let l = filter p (range_with_len 0 n) in
+    let more : (b : Bool) → p n ≡ b → filter p (range_with_len 0 (suc n)) ≡ l ++ cond b (n ∷ []) [] = λ b t. filter_more n p ∙ ap (λ b. l ++ cond b (n ∷ []) []) t in
+    test (p n)
+    (λ t. more true t ∙ ap (λ l. l ++ n ∷ []) (members_filter n p) ∙ sym (members_yes n p t))
+    (λ f. more false f ∙ append-nil l ∙ members_filter n p ∙ sym (members_not n p f))
 
-pub filling_end : {L l : List ℕ} {i : ℕ} (n : ℕ) → Filling L l i → i ≡ n → l ≡ strip (take n L)
-filling_end n f e = rw (← e) f.is
+-- the members below n, each with its place in their list
+abbrev pub numbered : ℕ → (ℕ → Bool) → List (ℕ × ℕ)
+numbered n p = enumerate_from 0 (filter p (range_with_len 0 n))
 
--- a stretch that lists, by number, the members of p below i
-pub record Listing (p : ℕ → Bool) (l : List ℕ) (at i : ℕ) : Type 0 where
-  pub is : l ≡ strip (map suc (members i p))
-  pub count : at ≡ length (members i p)
+second : (k : ℕ) (l : List ℕ) → map (λ q. q.1) (enumerate_from k l) ≡ l
+second k [] = refl
+second k (x ∷ l) = ap (λ r. x ∷ r) (second (k + 1) l)
 
-pub listing_long : {p : ℕ → Bool} {l : List ℕ} {at i : ℕ} → Listing p l at i → length l ≡ limit
-listing_long {p} {l} {at} {i} f = ap length f.is ∙ strip_length (map suc (members i p))
+-- what comes next stands at the place behind what came before
+pub next_place : (n : ℕ) (p : ℕ → Bool) (y : List (ℕ × ℕ)) (x : ℕ × ℕ) → n ≤ limit
+    → (length y < length (numbered n p)) × (x ≡ get_or (numbered n p) (length y) x) → (x.0 ≡ length y) × (length y < limit)
+next_place n p y x h (b, e) =
+    let l = filter p (range_with_len 0 n) in
+    let m : length (numbered n p) ≡ length (members n p) = length-enumerate_from 0 l ∙ ap length (members_filter n p) in
+    let w = members_within n p in
+    let z : x.0 ≡ 0 + length y = ap (λ q. q.0) (e ∙ get_or-enumerate_from 0 l (length y) x (omega (arith, length-enumerate_from 0 l))) in
+    (omega arith, omega arith)
 
-pub listing_within : {p : ℕ → Bool} {l : List ℕ} {at i : ℕ} → Listing p l at i → at ≤ i
-listing_within {p} {l} {at} {i} f = let w = members_within i p in let c = f.count in omega arith
+pub listed_add : (y : List (ℕ × ℕ)) (x : ℕ × ℕ) → (x.0 ≡ length y) × (length y < limit)
+    → set (strip (map (λ q. suc q.1) y)) x.0 (x.1 + 1) ≡ strip (map (λ q. suc q.1) (y ++ x ∷ []))
+listed_add y x (e, h) =
+    let l = map (λ (q : ℕ × ℕ). suc q.1) y in
+    let m : length l ≡ length y = length-map y (λ q. suc q.1) in
+    ap (λ k. set (strip l) k (x.1 + 1)) (e ∙ sym m) ∙ ap (set (strip l) (length l)) (add-one x.1) ∙ strip_add l (suc x.1) (omega arith)
+    ∙ ap strip (sym (map-append (λ (q : ℕ × ℕ). suc q.1) y (x ∷ [])))
 
-pub listing_start : (p : ℕ → Bool) {l : List ℕ} → l ≡ strip [] → Listing p l 0 0
-listing_start p e = record { is = rw (members_zero p) e; count = rw (members_zero p) refl }
-
-pub listing_skip : {p : ℕ → Bool} {l : List ℕ} {at i : ℕ} → Listing p l at i → p i ≡ false → Listing p l at (i + 1)
-listing_skip {p} {l} {at} {i} f t = record { is = rw (add-one i, members_not i p t) f.is; count = rw (add-one i, members_not i p t) f.count }
-
-pub listing_add : {p : ℕ → Bool} {l : List ℕ} {at i : ℕ} → Listing p l at i → p i ≡ true → i < limit → Listing p (set l at (i + 1)) (at + 1) (i + 1)
-listing_add {p} {l} {at} {i} f t h =
-    let m = members i p in
-    let c : at ≡ length (map suc m) = f.count ∙ sym (length-map m suc) in
-    let w = members_within i p in
-    let s : set (strip (map suc m)) (length (map suc m)) (suc i) ≡ strip (map suc m ++ suc i ∷ []) =
-    strip_add (map suc m) (suc i) (omega (arith, length-map m suc)) in
-    record {
-      is = rw (f.is, c, add-one i, members_yes i p t, map-append suc m (i ∷ [])) s;
-      count = rw (add-one i, members_yes i p t) (omega (arith, f.count, length-append m (i ∷ [])));
-    }
-
-pub listing_end : {p : ℕ → Bool} {l : List ℕ} {at i : ℕ} (n : ℕ) → Listing p l at i → i ≡ n → l ≡ strip (map suc (members n p))
-listing_end n f e = rw (← e) f.is
+pub listed_all : (n : ℕ) (p : ℕ → Bool) (y : List (ℕ × ℕ)) → map (λ q. (q.0, q.1)) y ≡ numbered n p
+    → strip (map (λ q. suc q.1) y) ≡ strip (map suc (members n p))
+listed_all n p y e = ap strip (sym (map-map suc (λ (q : ℕ × ℕ). q.1) y)
+    ∙ ap (map suc) (ap (map (λ (q : ℕ × ℕ). q.1)) (sym (map-id y) ∙ e) ∙ second 0 (filter p (range_with_len 0 n)) ∙ members_filter n p))

@@ -1,28 +1,28 @@
--- From who may be left over to the verdict: all equations and unknowns are paired exactly if E = U = rank. And from the verdict to the reply.
-use mathlib.Core.Path.{◌≡◌, refl, sym, ap, ◌∙◌, subst}
+-- From who may be left over to the verdict: all equations and unknowns are paired exactly if E = U = rank.
+use mathlib.Core.Path.{◌≡◌, sym, subst}
 use mathlib.Core.Bool.{Bool, true, false, ◌&&◌}
 use mathlib.Core.List.{List, [], ◌++◌, map}
 use Prim.Native.Nat.{ℕ, suc}
 use native.Mathlib.Omega.{arith}
 use lib.Dec.{eqb}
-use lib.ListN.{length, drop}
+use lib.ListN.{drop}
 use borrow.Author.Tests.{eqb-true, eq-eqb}
 use Rattle.laws.specs.Marks.{marked}
 use Rattle.laws.proofs.Tests.{clash, and_left, and_right, and_both}
-use Rattle.table.specs.Model.{occurs_at, order_at, rows_of, Bounded}
+use Rattle.table.specs.Model.{occurs_at, Bounded}
 use Rattle.pairing.specs.Pairing.{Rel, Rank}
 use Rattle.pairing.specs.Handed.{LeftIs}
 use Rattle.pairing.specs.Members.{members}
 use Rattle.pairing.proofs.Sizes.{size_full}
 use Rattle.pairing.proofs.Lists.{members_listed}
 use Rattle.counts.specs.Work.{Pairable}
-use Rattle.analysis.specs.Outcome.{packed, strips, answer_bytes, refusal, refusal_place, Solved, Verdict, Reply}
+use Rattle.analysis.specs.Outcome.{packed, strips, answer_bytes, Solved, Verdict}
 
 -- the test of the code, taken apart
-paired_square : (E U rank : ℕ) → (eqb E U && eqb rank E) ≡ true → E ≡ U
+pub paired_square : (E U rank : ℕ) → (eqb E U && eqb rank E) ≡ true → E ≡ U
 paired_square E U rank t = eqb-true E U (and_left (eqb E U) (eqb rank E) t)
 
-paired_all : (E U rank : ℕ) → (eqb E U && eqb rank E) ≡ true → rank ≡ E
+pub paired_all : (E U rank : ℕ) → (eqb E U && eqb rank E) ≡ true → rank ≡ E
 paired_all E U rank t = eqb-true rank E (and_right (eqb E U) (eqb rank E) t)
 
 -- what the counts ask for: with all paired a largest pairing takes in every equation
@@ -67,19 +67,4 @@ verdict_singular {E} {U} {rank} {surplus = surplus} {unfixed} l w q r = record {
     says = q;
     holds = r;
   };
-}
-
--- the two ways of a reply
-pub reply_refused : {E U : ℕ} {t before : List ℕ} {code place number : ℕ} → code ≡ refusal E U t (length before) → (code ≡ 0 → ⊥) → place ≡ refusal_place code t
-    → number ≡ packed code place 0 0 0 0 → Reply E U t before number before
-reply_refused {E} {U} {t} {before} {code} c n p q = record {
-  refused = λ _. record { says = q ∙ (rw p (ap (λ (k : ℕ). packed k (refusal_place k t) 0 0 0 0) c)); holds = refl };
-  verdict = λ z. absurd (n (c ∙ z));
-}
-
-pub reply_verdict : {E U : ℕ} {t before : List ℕ} {code number : ℕ} {rows : List (List ℕ)} {after : List ℕ} → code ≡ refusal E U t (length before) → code ≡ 0
-    → rows ≡ rows_of E U t → Verdict E U (occurs_at rows) (order_at rows) before number after → Reply E U t before number after
-reply_verdict {E} {U} {t} {before} {number = number} {after = after} c z e v = record {
-  refused = λ n. absurd (n (sym c ∙ z));
-  verdict = λ _. subst (λ (r : List (List ℕ)). Verdict E U (occurs_at r) (order_at r) before number after) e v;
 }

@@ -7,6 +7,8 @@ use Rattle.pairing.specs.Pairing.{Rel, Rank, Surplus, Unfixed, Listed}
 use Rattle.pairing.specs.First.{First}
 use Rattle.counts.specs.Fit.{Least, leading, index_of, freedom_of}
 use Rattle.blocks.specs.Blocks.{needs_at, Placed}
+use Rattle.analysis.specs.declared.judge.Refusal.{Refusal}
+use Rattle.analysis.specs.declared.judge.Refusal.TheVariants.{OutOfLimits, TableLength, ShortAnswer, CodeAbove}
 
 -- the six numbers as one: from the lowest byte code, place (two bytes, low first), rank, index, freedom, blocks, then 0
 abbrev pub packed : ℕ → ℕ → ℕ → ℕ → ℕ → ℕ → ℕ
@@ -59,6 +61,19 @@ refusal E U table room =
 -- the place that goes with it: for 4 the first offset of a code above 4
 abbrev pub refusal_place : ℕ → List ℕ → ℕ
 refusal_place code table = pick (eqb code 4) (first_above table) 0
+
+-- the number and the place of each refusal that the code tells apart
+abbrev pub number_of : Refusal → ℕ
+number_of OutOfLimits = 1
+number_of TableLength = 2
+number_of ShortAnswer = 3
+number_of (CodeAbove at) = 4
+
+abbrev pub place_of : Refusal → ℕ
+place_of OutOfLimits = 0
+place_of TableLength = 0
+place_of ShortAnswer = 0
+place_of (CodeAbove at) = at
 
 -- refused: the code and its place, others 0; nothing written
 pub record Refused (code : ℕ) (table before : List ℕ) (number : ℕ) (after : List ℕ) : Type 0 where

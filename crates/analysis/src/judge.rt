@@ -1,32 +1,70 @@
 // What is refused, before anything is written.
-ghost use Rattle.std.specs.Prelude.{◌≡◌};
-ghost use Rattle.analysis.specs.Outcome.{refusal, refusal_place};
+ghost use Rattle.std.specs.Prelude.{◌≡◌, MatchResult};
+ghost use Rattle.analysis.specs.Outcome.{refusal, refusal_place, number_of, place_of};
 
 use crate::strip::ANSWER;
 use table::judge::{first_above, in_limits};
 
-// The first refusal that applies, in the order 1, 2, 3, 4, or 0 where none does.
-pub fn first_refusal(equations: usize, unknowns: usize, table: &[u8], room: usize) -> u8
-    ensures { result ≡ refusal equations unknowns table.now room }
-{
-    if !in_limits(equations, unknowns) {
-        return 1;
-    }
-    if table.len() != equations * unknowns {
-        return 2;
-    }
-    if room < ANSWER {
-        return 3;
-    }
-    if first_above(table) < table.len() {
-        return 4;
-    }
-    0
+// Why nothing is analysed, in the order in which it is looked for.
+#[derive(Clone, Copy, PartialEq, Eq)]
+pub enum Refusal {
+    // E or U is 0 or above 32.
+    OutOfLimits,
+    // The table's length is not E×U.
+    TableLength,
+    // The answer buffer is below 160 bytes.
+    ShortAnswer,
+    // A code above 4; the first such offset.
+    CodeAbove(usize),
 }
 
-// The place that goes with a refusal: for 4 the first offset of a code above 4, for the others 0.
-pub fn refusal_place(code: u8, table: &[u8]) -> usize
-    ensures { result ≡ refusal_place code table.now }
+impl Refusal {
+    // The number that document 01 gives it.
+    pub fn number(self) -> u8
+        ensures { result ≡ number_of self }
+    {
+        match self {
+            Refusal::OutOfLimits => 1,
+            Refusal::TableLength => 2,
+            Refusal::ShortAnswer => 3,
+            Refusal::CodeAbove(_) => 4,
+        }
+    }
+
+    // The place that goes with it.
+    pub fn place(self) -> usize
+        ensures { result ≡ place_of self }
+    {
+        match self {
+            Refusal::CodeAbove(at) => at,
+            _ => 0,
+        }
+    }
+}
+
+// The first refusal that applies.
+pub fn first_refusal(
+    equations: usize,
+    unknowns: usize,
+    table: &[u8],
+    room: usize,
+) -> Result<(), Refusal>
+    ensures { MatchResult result (λ _. refusal equations unknowns table.now room ≡ 0)
+        (λ refused. (number_of refused ≡ refusal equations unknowns table.now room)
+        × (place_of refused ≡ refusal_place (number_of refused) table.now)) }
 {
-    if code == 4 { first_above(table) } else { 0 }
+    if !in_limits(equations, unknowns) {
+        return Err(Refusal::OutOfLimits);
+    }
+    if table.len() != equations * unknowns {
+        return Err(Refusal::TableLength);
+    }
+    if room < ANSWER {
+        return Err(Refusal::ShortAnswer);
+    }
+    let at = first_above(table);
+    if at < table.len() {
+        return Err(Refusal::CodeAbove(at));
+    }
+    Ok(())
 }

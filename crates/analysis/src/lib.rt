@@ -10,7 +10,7 @@ pub mod verdict;
 
 ghost use Rattle.analysis.specs.Outcome.{Reply};
 
-use crate::judge::{first_refusal, refusal_place};
+use crate::judge::first_refusal;
 use crate::number::pack;
 use crate::verdict::verdict;
 use table::rows::filled;
@@ -18,6 +18,7 @@ use table::rows::filled;
 // The entry in the C calling form: each slice is a pointer and a length. Hands back code, place, rank, index, freedom and blocks as one number,
 // and writes the strips. It asks nothing of its caller and always returns.
 #[unsafe(no_mangle)]
+#[tactic(auto, using(crate::proofs::Refusal::ready))]
 pub extern "C" fn mudorder_analyse(
     equations: usize,
     unknowns: usize,
@@ -26,9 +27,8 @@ pub extern "C" fn mudorder_analyse(
 ) -> u64
     ensures { Reply equations unknowns table.now answer.old result answer.new }
 {
-    let refused = first_refusal(equations, unknowns, table, answer.len());
-    if refused != 0 {
-        return pack(refused, refusal_place(refused, table), 0, 0, 0, 0);
+    if let Err(refused) = first_refusal(equations, unknowns, table, answer.len()) {
+        return pack(refused.number(), refused.place(), 0, 0, 0, 0);
     }
     let rows = filled(equations, unknowns, table);
     verdict(&rows, equations, unknowns, answer)

@@ -6,16 +6,11 @@ ghost use Rattle.pairing.specs.Members.{members};
 ghost use Rattle.analysis.specs.Outcome.{strips, answer_bytes};
 
 use crate::strip::{listed, unused};
+use pairing::Marks;
 use table::LIMIT;
 
 // The surplus equations, the unfixed unknowns, and three strips with nothing in them.
-pub fn write(
-    answer: &mut [u8],
-    equations: usize,
-    unknowns: usize,
-    surplus: [bool; LIMIT],
-    unfixed: [bool; LIMIT],
-)
+pub fn write(answer: &mut [u8], equations: usize, unknowns: usize, surplus: Marks, unfixed: Marks)
     requires { (answer_bytes ≤ length answer.old) × (equations ≤ limit) × (unknowns ≤ limit) }
     ensures { answer.new ≡ strips (map suc (members equations (marked surplus))) (map suc (members unknowns (marked unfixed))) [] [] [] ++ drop answer_bytes answer.old }
 {

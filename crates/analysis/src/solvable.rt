@@ -1,48 +1,52 @@
 // The answer to a solvable model: its least counts, their tops, the first partners over the leading occurrences, and the solving order.
 ghost use Rattle.std.specs.Prelude.{◌≡◌, ◌++◌, map, ◌≤◌, length, take, drop};
 ghost use Rattle.table.specs.Model.{limit, occurs_at, order_at};
-ghost use Rattle.table.specs.Number.{equation_number, unknown_number};
+ghost use Rattle.table.specs.Number.{equation_number, unknown_number, or_zero};
 ghost use Rattle.counts.specs.Work.{Pairable};
 ghost use Rattle.analysis.specs.Outcome.{strips, answer_bytes, Solved};
 ghost use Rattle.analysis.specs.Written.{SolutionIs};
 
 use crate::number::pack;
 use crate::strip::numbers;
-use blocks::place::solve_order;
+use blocks::place::{Placing, solve_order};
 use counts::figures::{freedom, index};
 use counts::lead::leading_rows;
-use counts::raise::least;
+use counts::raise::{Choice, least};
 use pairing::first::first;
-use table::LIMIT;
 use table::number::{Equation, Unknown};
+use table::{LIMIT, Row, Rows};
 
 // Counts by equation, tops by unknown, partners by equation, the equations in solving order with the block number of each place, and three figures.
 #[derive(Clone, Copy)]
 pub struct Solution {
-    pub counts: [u8; LIMIT],
-    pub tops: [u8; LIMIT],
-    pub partners: [Unknown; LIMIT],
-    pub order: [Equation; LIMIT],
-    pub block: [u8; LIMIT],
+    pub counts: Row,
+    pub tops: Row,
+    pub partners: [Option<Unknown>; LIMIT],
+    pub order: [Option<Equation>; LIMIT],
+    pub block: Row,
     pub index: u8,
     pub freedom: u8,
     pub blocks: u8,
 }
 
 // What is to be said of a model of n equations that all have a pair.
-fn solve(rows: &[[u8; LIMIT]; LIMIT], n: usize) -> Solution
+#[tactic(auto, using(counts::proofs::Chosen::chosen_small, counts::proofs::Chosen::chosen_full, counts::proofs::Chosen::freedom_asks, blocks::proofs::FirstPartners::first_partnered))]
+fn solve(rows: &Rows, n: usize) -> Solution
     requires { Pairable n rows.now }
-    ensures { SolutionIs n rows.now result.counts result.tops result.partners result.order result.block result.index result.freedom result.blocks }
+    ensures { SolutionIs n rows.now result }
 {
-    let choice = least(rows, n);
-    let counts = choice.counts;
-    let tops = choice.tops;
-    let holders = choice.holders;
+    let Choice {
+        counts,
+        tops,
+        holders,
+    } = least(rows, n);
     let leading = leading_rows(rows, n, &counts, &tops);
     let partners = first(&leading, n, holders);
-    let placing = solve_order(&leading, n, partners);
-    let order = placing.order;
-    let block = placing.block;
+    let Placing {
+        order,
+        block,
+        blocks,
+    } = solve_order(&leading, n, partners);
     Solution {
         counts,
         tops,
@@ -51,51 +55,40 @@ fn solve(rows: &[[u8; LIMIT]; LIMIT], n: usize) -> Solution
         block,
         index: index(n, &counts),
         freedom: freedom(n, &counts, &tops),
-        blocks: placing.blocks,
+        blocks,
     }
 }
 
 // Each of the five strips, through its own stretch.
-fn write(
-    answer: &mut [u8],
-    n: usize,
-    counts: [u8; LIMIT],
-    tops: [u8; LIMIT],
-    partners: [Unknown; LIMIT],
-    order: [Equation; LIMIT],
-    block: [u8; LIMIT],
-)
+fn write(answer: &mut [u8], n: usize, solution: &Solution)
     requires { (answer_bytes ≤ length answer.old) × (n ≤ limit) }
-    ensures { answer.new ≡ strips (take n counts) (take n tops) (take n (map unknown_number partners)) (take n (map equation_number order)) (take n block)
+    ensures { answer.new ≡ strips (take n solution.now.counts) (take n solution.now.tops)
+        (take n (map (or_zero unknown_number) solution.now.partners)) (take n (map (or_zero equation_number) solution.now.order)) (take n solution.now.block)
         ++ drop answer_bytes answer.old }
 {
-    numbers(&mut answer[0..LIMIT], n, counts);
-    numbers(&mut answer[LIMIT..2 * LIMIT], n, tops);
+    numbers(&mut answer[0..LIMIT], n, solution.counts);
+    numbers(&mut answer[LIMIT..2 * LIMIT], n, solution.tops);
     numbers(
         &mut answer[2 * LIMIT..3 * LIMIT],
         n,
-        Unknown::numbers(partners),
+        table::number::numbers(solution.partners),
     );
     numbers(
         &mut answer[3 * LIMIT..4 * LIMIT],
         n,
-        Equation::numbers(order),
+        table::number::numbers(solution.order),
     );
-    numbers(&mut answer[4 * LIMIT..5 * LIMIT], n, block);
+    numbers(&mut answer[4 * LIMIT..5 * LIMIT], n, solution.block);
 }
 
 // The number and the strips of a solvable model.
-pub fn solvable(rows: &[[u8; LIMIT]; LIMIT], n: usize, answer: &mut [u8]) -> u64
+#[tactic(auto, using(crate::proofs::Solution::is_solved))]
+pub fn solvable(rows: &Rows, n: usize, answer: &mut [u8]) -> u64
     requires { Pairable n rows.now × (answer_bytes ≤ length answer.old) }
     ensures { Solved n (occurs_at rows.now) (order_at rows.now) n answer.old result answer.new }
 {
     let solution = solve(rows, n);
-    let counts = solution.counts;
-    let tops = solution.tops;
-    let partners = solution.partners;
-    let order = solution.order;
-    let block = solution.block;
-    write(&mut *answer, n, counts, tops, partners, order, block);
+    write(&mut *answer, n, &solution);
     pack(
         0,
         0,

@@ -5,7 +5,8 @@ ghost use Rattle.table.specs.Model.{limit};
 ghost use Rattle.pairing.specs.Members.{members};
 ghost use Rattle.analysis.specs.Outcome.{strip};
 
-use table::LIMIT;
+use pairing::Marks;
+use table::{LIMIT, Row};
 
 // What an unused place of a strip holds.
 pub const UNUSED: u8 = 255;
@@ -14,43 +15,31 @@ pub const UNUSED: u8 = 255;
 pub const ANSWER: usize = 5 * LIMIT;
 
 // A strip with nothing in it.
+#[tactic(auto, using(crate::proofs::Strips::strip_none))]
 pub fn unused(stretch: &mut [u8])
     requires { length stretch.old ≡ limit }
     ensures { stretch.new ≡ strip [] }
 {
-    let mut i = 0;
-    while i < stretch.len() {
-        stretch[i] = UNUSED;
-        i += 1;
-    }
+    stretch.fill(UNUSED);
 }
 
 // Numbers by place: counts, tops, partners, equations in solving order, block numbers.
-pub fn numbers(stretch: &mut [u8], n: usize, numbers: [u8; LIMIT])
+#[tactic(auto, using(crate::proofs::Strips::strip_front))]
+pub fn numbers(stretch: &mut [u8], n: usize, numbers: Row)
     requires { (length stretch.old ≡ limit) × (n ≤ limit) }
     ensures { stretch.new ≡ strip (take n numbers) }
 {
     unused(&mut *stretch);
-    let mut i = 0;
-    while i < n {
-        stretch[i] = numbers[i];
-        i += 1;
-    }
+    stretch[..n].copy_from_slice(&numbers[..n]);
 }
 
 // The numbers of those that are marked, ascending: surplus equations, unfixed unknowns.
-pub fn listed(stretch: &mut [u8], n: usize, marks: [bool; LIMIT])
+pub fn listed(stretch: &mut [u8], n: usize, marks: Marks)
     requires { (length stretch.old ≡ limit) × (n ≤ limit) }
     ensures { stretch.new ≡ strip (map suc (members n (marked marks))) }
 {
     unused(&mut *stretch);
-    let mut at = 0;
-    let mut i = 0;
-    while i < n {
-        if marks[i] {
-            stretch[at] = (i + 1) as u8;
-            at += 1;
-        }
-        i += 1;
+    for (at, i) in (0..n).filter(|&i| marks[i]).enumerate() {
+        stretch[at] = (i + 1) as u8;
     }
 }

@@ -7,26 +7,17 @@ use crate::number::pack;
 use crate::singular::write;
 use crate::solvable::solvable;
 use pairing::left::left_over;
-use table::LIMIT;
+use table::Rows;
 
 // Solvable means E = U = rank.
 fn all_paired(equations: usize, unknowns: usize, rank: u8) -> bool
     ensures { result ≡ (eqb equations unknowns && eqb rank equations) }
 {
-    if equations == unknowns {
-        (rank as usize) == equations
-    } else {
-        false
-    }
+    equations == unknowns && usize::from(rank) == equations
 }
 
 // The verdict on a table that was judged. Counts are looked for only where all are paired: with a surplus equation the raising would never end.
-pub fn verdict(
-    rows: &[[u8; LIMIT]; LIMIT],
-    equations: usize,
-    unknowns: usize,
-    answer: &mut [u8],
-) -> u64
+pub fn verdict(rows: &Rows, equations: usize, unknowns: usize, answer: &mut [u8]) -> u64
     requires { Bounded equations unknowns rows.now × (answer_bytes ≤ length answer.old) }
     ensures { Verdict equations unknowns (occurs_at rows.now) (order_at rows.now) answer.old result answer.new }
 {

@@ -1,10 +1,10 @@
 -- The laws of blocks.
+pub mod Ranges
 pub mod Ways
 pub mod Placed
 pub mod Numbering
 pub mod Rank
 pub mod Arranged
-pub mod Codes
 pub mod Tables
 pub mod Listings
 pub mod ReachTables

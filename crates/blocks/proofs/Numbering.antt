@@ -7,12 +7,14 @@ use Prim.Native.Nat.{ℕ, zero, suc, ◌+◌, ◌<◌, ◌≤◌}
 use native.Mathlib.Numerals.{add-one}
 use native.Mathlib.Omega.{arith}
 use lib.Dec.{ltb, leb, eqb}
-use borrow.Author.Tests.{eqb-true, eq-eqb, ne_eqb}
+use Rattle.std.specs.declared.option.Option.TheVariants.{None, Some}
+use borrow.Author.Tests.{eqb-true, eq-eqb}
 use Rattle.laws.specs.Count.{bit, count, any}
 use Rattle.laws.specs.Tab.{tab, number_at}
-use Rattle.laws.proofs.Tests.{test, tests, given, clash, true≢false, not_true, and_left, and_right, and_both}
-use Rattle.laws.proofs.Search.{any_here, any_where, any_none}
-use Rattle.laws.proofs.Sum.{bit_true, bit_false, sum_bound}
+use Rattle.laws.proofs.Tests.{test, tests, given, clash, not_true, and_left, and_right, and_both}
+use Rattle.laws.proofs.Search.{any_where, any_none}
+use Rattle.laws.proofs.Counts.{count_within}
+use Rattle.laws.proofs.Sum.{bit_true, bit_false}
 use Rattle.laws.proofs.Inject.{count_misses}
 use Rattle.laws.proofs.Tab.{get_or_tab}
 use Rattle.table.specs.Model.{limit}
@@ -103,47 +105,6 @@ module _ {m : ℕ} {T : Rel} (C : Closed m T) where
         (λ t. given (some_waits (suc (count m (T e))) e (omega arith) h (eqb-true (num e) 0 t)) (λ (x, l, w). clash w (none x l)))
         (λ t. omega (arith, tests))
 
--- waiting, as the loop over all that may keep e finds it out
-module _ (m : ℕ) (T : Rel) (num : ℕ → ℕ) (e : ℕ) where
-  pub stands_already : (num e ≡ 0 → ⊥) → false ≡ waits_at m T num e
-  stands_already ne = rw (ne_eqb (num e) 0 ne)
-
-  pub is_kept : (g : ℕ) → g < m → keeps_at T num e g ≡ true → false ≡ waits_at m T num e
-  is_kept g h t = test (eqb (num e) 0) (λ z. rw (z, any_here {n = m} (keeps_at T num e) g h t)) (λ z. rw z)
-
-  pub none_keeps : num e ≡ 0 → ((g : ℕ) → g < m → keeps_at T num e g ≡ false) → true ≡ waits_at m T num e
-  none_keeps z none = rw (eq-eqb (num e) 0 z) (sym (so_not (not_true
-      (λ t. given (any_where {n = m} (keeps_at T num e) t) (λ (g, h, k). absurd (true≢false (sym k ∙ none g h)))))))
-
--- the search for the lowest that waits: the equations below e are seen, and best is the lowest of them that waits, or m
-pub record Seeking (m : ℕ) (T : Rel) (num : ℕ → ℕ) (best e : ℕ) : Type 0 where
-  pub most : best ≤ m
-  pub seen : e ≤ m
-  pub found : best < m → waits_at m T num best ≡ true
-  pub none : (f : ℕ) → f < e → f < best → waits_at m T num f ≡ false
-
-module _ {m : ℕ} {T : Rel} {num : ℕ → ℕ} where
-  pub seek_start : Seeking m T num m 0
-  seek_start = record { most = omega arith; seen = omega arith; found = λ h. absurd (omega arith); none = λ f h l. absurd (omega arith) }
-
-  module _ {best e : ℕ} (S : Seeking m T num best e) (h : e < m) where
-    pub seek_found : e < best → waits_at m T num e ≡ true → Seeking m T num e (e + 1)
-    seek_found l t = record { most = omega arith; seen = omega arith; found = λ _. t; none = λ f _ u. S.none f u (omega arith) }
-
-    pub seek_kept : waits_at m T num e ≡ false → Seeking m T num best (e + 1)
-    seek_kept t = record {
-      most = S.most;
-      seen = omega arith;
-      found = S.found;
-      none = λ f u l. test (eqb f e) (λ q. rw (eqb-true f e q) t) (λ q. S.none f (omega (arith, tests)) l);
-    }
-
-    pub seek_past : best ≤ e → Seeking m T num best (e + 1)
-    seek_past l = record { most = S.most; seen = omega arith; found = S.found; none = λ f _ u. S.none f (omega arith) u }
-
-  pub seek_end : {best e : ℕ} → Seeking m T num best e → m ≤ e → Lowest m T num best
-  seek_end S l = let b = S.most in record { found = S.found; none = λ f u. S.none f (omega arith) u; most = S.most }
-
 -- While something does not stand some block is ready: S says what stands.
 pub some_ready : {m : ℕ} {R : Rel} → Within m R → (S : ℕ → Bool) (e : ℕ) → e < m → S e ≡ false
     → (x : ℕ) × (x < m) × (S x ≡ false) × ((f g : ℕ) → Shares R x f → R f g ≡ true → (Shares R x g → ⊥) → S g ≡ true)
@@ -180,10 +141,13 @@ numbering_start none = record {
 }
 
 -- the lowest that waits gets the next number, and with it its whole block
-module _ {m : ℕ} {T : Rel} (C : Closed m T) {num : ℕ → ℕ} {k : ℕ} (N : Numbering m T num k) {e : ℕ} (h : e < m) (L : Lowest m T num e)
+module _ {m : ℕ} {T : Rel} (C : Closed m T) {num : ℕ → ℕ} {k : ℕ} (N : Numbering m T num k) {e : ℕ} (L : Lowest m T num (Some e))
     {next : ℕ → ℕ} (is : (f : ℕ) → f < m → next f ≡ renumbered T num e (suc k) f) where
+  h : e < m
+  h = L.0
+
   w : Waits C num e
-  w = waiting C num e (L.found h)
+  w = waiting C num e L.1
 
   -- a member of the block: it did not stand, and has the new number
   inside : (f : ℕ) → f < m → both T e f ≡ true → (num f ≡ 0) × (next f ≡ suc k)
@@ -247,7 +211,7 @@ module _ {m : ℕ} {T : Rel} (C : Closed m T) {num : ℕ → ℕ} {k : ℕ} (N :
       -- the new block is the lowest of those that waited
       below : next f ≡ suc k → e ≤ g
       below z = test (ltb g e)
-          (λ t. clash (does_wait C num g (record { out = out; rest = rest })) (L.none g (omega (arith, tests))))
+          (λ t. clash (does_wait C num g (record { out = out; rest = rest })) (L.2 g (omega (arith, tests))))
           (λ t. omega (arith, tests))
         where
           rest : (x : ℕ) → T g x ≡ true → T x g ≡ false → 1 ≤ num x
@@ -277,30 +241,28 @@ module _ {m : ℕ} {T : Rel} (C : Closed m T) {num : ℕ → ℕ} {k : ℕ} (N :
       e h (eq-eqb (num e) 0 w.out)
       (λ f l t q. let z = eqb-true (next f) 0 t in let y = (inside f l (rw q (both_self C e h))).1 in absurd (omega arith))
 
--- the loop: k blocks stand, and e is the lowest that waits
-pub record Counting (m : ℕ) (T : Rel) (num : ℕ → ℕ) (k e : ℕ) : Type 0 where
+-- the loop: k blocks stand
+pub record Counting (m : ℕ) (T : Rel) (num : ℕ → ℕ) (k : ℕ) : Type 0 where
   pub numbering : Numbering m T num k
-  pub lowest : Lowest m T num e
   pub room : k + unplaced m num ≤ m
 
-pub counting_start : {m : ℕ} {T : Rel} {num : ℕ → ℕ} {e : ℕ} → ((f : ℕ) → num f ≡ 0) → Lowest m T num e → Counting m T num 0 e
-counting_start {m} {num = num} none L =
-    let b = sum_bound m 1 (λ f. bit (eqb (num f) 0)) (λ f _. rw (none f) (omega arith)) in
-    record { numbering = numbering_start (λ f _. none f); lowest = L; room = omega arith }
+pub counting_start : {m : ℕ} {T : Rel} {num : ℕ → ℕ} → ((f : ℕ) → num f ≡ 0) → Counting m T num 0
+counting_start {m} {num = num} none =
+    let b = count_within m (λ f. eqb (num f) 0) in record { numbering = numbering_start (λ f _. none f); room = omega arith }
 
-module _ {m : ℕ} {T : Rel} (C : Closed m T) (few : m ≤ limit) {num : ℕ → ℕ} {k e : ℕ} (S : Counting m T num k e) (h : e < m)
+module _ {m : ℕ} {T : Rel} (C : Closed m T) (few : m ≤ limit) {num : ℕ → ℕ} {k e : ℕ} (S : Counting m T num k) (L : Lowest m T num (Some e))
     {l : List ℕ} (is : l ≡ tab limit (renumbered T num e (k + 1))) where
   each : (f : ℕ) → f < m → number_at l f ≡ renumbered T num e (suc k) f
   each f b = rw (is, add-one k) (get_or_tab limit (renumbered T num e (suc k)) f 0 (omega arith))
 
   pub counting_falls : unplaced m (number_at l) < unplaced m num
-  counting_falls = numbering_falls C S.numbering h S.lowest each
+  counting_falls = numbering_falls C S.numbering L each
 
-  pub counting_step : {e' : ℕ} → Lowest m T (number_at l) e' → Counting m T (number_at l) (k + 1) e'
-  counting_step L =
+  pub counting_step : Counting m T (number_at l) (k + 1)
+  counting_step =
       let r = S.room in
       let d = counting_falls in
-      record { numbering = rw (add-one k) (numbering_step C S.numbering h S.lowest each); lowest = L; room = omega arith }
+      record { numbering = rw (add-one k) (numbering_step C S.numbering L each); room = omega arith }
 
-pub counting_end : {m : ℕ} {T : Rel} {num : ℕ → ℕ} {k e : ℕ} → Closed m T → Counting m T num k e → m ≤ e → AllNumbered m T num k
-counting_end {num = num} C S l = record { numbering = S.numbering; all = all_stand C num (λ f h. S.lowest.none f (omega arith)) }
+pub counting_end : {m : ℕ} {T : Rel} {num : ℕ → ℕ} {k : ℕ} → Closed m T → Counting m T num k → Lowest m T num None → AllNumbered m T num k
+counting_end {num = num} C S none = record { numbering = S.numbering; all = all_stand C num none }

@@ -11,20 +11,17 @@ use borrow.Author.Tests.{eqb-true, eqb-false, eq-eqb, ne_eqb, lt-ltb, le-ltb, lt
 use Rattle.laws.specs.Count.{bit}
 use Rattle.laws.specs.Tab.{tab, pick, upto}
 use Rattle.laws.proofs.Tests.{test}
-use Rattle.laws.proofs.Tab.{length_tab, get_or_tab, is_tab, tab_ext, upto_below, upto_from, replicate_tab, fill_step, fill_end}
+use Rattle.laws.proofs.Tab.{length_tab, get_or_tab, is_tab, tab_ext, upto_below, upto_from, replicate_tab, fill_step}
 use Rattle.table.specs.Model.{limit, code_at, square}
 use Rattle.table.proofs.Model.{square_at}
 use Rattle.pairing.specs.Pairing.{Rel}
 use Rattle.blocks.specs.Blocks.{needs_at}
 use Rattle.blocks.specs.Steps.{at_once, either, through_at, through_code}
 
--- a loop that fills one place after another: a turn, and the end
+-- a loop that fills one place after another: a turn
 pub fill_next : {A : Type 0} (n i : ℕ) (f g : ℕ → A) (l : List A) (v : A) → l ≡ tab n (upto i f g) → v ≡ f i → i < n
     → set l i v ≡ tab n (upto (i + 1) f g)
 fill_next n i f g l v p q b = rw (p, q) (fill_step n i f g b)
-
-pub fill_done : {A : Type 0} (n i : ℕ) (f g : ℕ → A) (l : List A) → l ≡ tab n (upto i f g) → i ≡ n → l ≡ tab n f
-fill_done n i f g l p q = (rw q at p) ∙ fill_end n f g
 
 -- a loop that stops at i: from there on nothing is left to fill
 pub fill_rest : {A : Type 0} (n i : ℕ) (f g : ℕ → A) → ((k : ℕ) → i ≤ k → f k ≡ g k) → tab n (upto i f g) ≡ tab n f
@@ -32,16 +29,13 @@ fill_rest n i f g rest = tab_ext n (upto i f g) f
     (λ k b. test (ltb k i) (λ t. upto_below i f g k (ltb-true k i t))
     (λ t. upto_from i f g k (ltb-false k i t) ∙ sym (rest k (ltb-false k i t))))
 
--- a row left as it is, or joined with another
+-- a row left as it is
 module _ (row other : List ℕ) (k : ℕ) where
   abbrev pub stepped : ℕ → ℕ
   stepped g = pick (eqb (get_or row k 0) 0) (get_or row g 0) (either (get_or row g 0) (get_or other g 0))
 
   pub row_left : length row ≡ limit → get_or row k 0 ≡ 0 → row ≡ tab limit stepped
   row_left n z = is_tab row 0 limit stepped n (λ g b. rw (eq-eqb (get_or row k 0) 0 z))
-
-  pub row_joined : {r : List ℕ} → (get_or row k 0 ≡ 0 → ⊥) → r ≡ tab limit (λ g. either (get_or row g 0) (get_or other g 0)) → r ≡ tab limit stepped
-  row_joined ne q = q ∙ tab_ext limit (λ g. either (get_or row g 0) (get_or other g 0)) stepped (λ g b. rw (ne_eqb (get_or row k 0) 0 ne))
 
 -- codes 1 and 0 joined are codes 1 and 0
 pub through_bits : (T : Rel) (t : List (List ℕ)) (k : ℕ) → t ≡ square (λ e g. bit (T e g)) → k < limit
@@ -63,18 +57,14 @@ module _ (m : ℕ) (leading : Rel) (partner : ℕ → ℕ) where
   abbrev pub need_bit : ℕ → ℕ → ℕ
   need_bit f g = bit (needs_at m leading partner f g)
 
-  pub need_here : (f g : ℕ) → f < m → g < m → bit (not (eqb f g) && leading f (partner g)) ≡ need_bit f g
-  need_here f g h l = rw (lt-ltb f m h, lt-ltb g m l)
+  -- as far as the last equation, and zeros beyond
+  pub need_row_tab : (f : ℕ) → f < m → tab limit (λ g. pick (ltb g m) (bit (not (eqb f g) && leading f (partner g))) 0) ≡ tab limit (need_bit f)
+  need_row_tab f h = tab_ext limit (λ g. pick (ltb g m) (bit (not (eqb f g) && leading f (partner g))) 0) (need_bit f)
+      (λ g l. rw (lt-ltb f m h) (test (ltb g m) (λ t. rw t) (λ t. rw t)))
 
-  no_need : (f g : ℕ) → m ≤ g → need_bit f g ≡ 0
-  no_need f g l = test (ltb f m) (λ t. rw (t, le-ltb g m l)) (λ t. rw t)
-
-  pub need_row_end : (f : ℕ) → tab limit (upto m (need_bit f) (λ g. 0)) ≡ tab limit (need_bit f)
-  need_row_end f = fill_rest limit m (need_bit f) (λ g. 0) (λ g l. no_need f g l)
-
-  pub needs_end : tab limit (upto m (λ f. tab limit (need_bit f)) (λ f. replicate limit 0)) ≡ square need_bit
-  needs_end = fill_rest limit m (λ f. tab limit (need_bit f)) (λ f. replicate limit 0)
-      (λ f l. tab_ext limit (need_bit f) (λ g. 0) (λ g _. rw (le-ltb f m l)) ∙ sym (replicate_tab {A = ℕ} limit 0))
+  pub needs_tab : tab limit (λ f. pick (ltb f m) (tab limit (need_bit f)) (replicate limit 0)) ≡ square need_bit
+  needs_tab = tab_ext limit (λ f. pick (ltb f m) (tab limit (need_bit f)) (replicate limit 0)) (λ f. tab limit (need_bit f))
+      (λ f l. test (ltb f m) (λ t. rw t) (λ t. rw t (replicate_tab {A = ℕ} limit 0 ∙ tab_ext limit (λ g. 0) (need_bit f) (λ g _. rw t))))
 
 -- an equation's own place is set in its row
 module _ (m : ℕ) (R : Rel) where

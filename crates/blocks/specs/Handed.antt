@@ -4,6 +4,7 @@ use Rattle.laws.specs.Count.{bit}
 use Rattle.laws.specs.Tab.{number_at}
 use Rattle.table.specs.Model.{limit, Numbered, occurs_at, square}
 use Rattle.table.specs.Number.{equation_at}
+use Rattle.std.specs.declared.option.Option.{Option}
 use Rattle.table.specs.declared.number.Equation.{Equation}
 use Rattle.table.specs.declared.number.Unknown.{Unknown}
 use Rattle.pairing.specs.Pairing.{Rel}
@@ -11,11 +12,11 @@ use Rattle.pairing.specs.Handed.{partner_of}
 use Rattle.blocks.specs.Blocks.{Reaches, Placed}
 
 -- the place of the partner of the equation at place e
-abbrev pub partner_at : List Unknown → ℕ → ℕ
+abbrev pub partner_at : List (Option Unknown) → ℕ → ℕ
 partner_at p e = partner_of p e - 1
 
 -- within the limit, and each equation has a partner
-pub record Partnered (m : ℕ) (p : List Unknown) : Type 0 where
+pub record Partnered (m : ℕ) (p : List (Option Unknown)) : Type 0 where
   pub few : m ≤ limit
   pub each : (e : ℕ) → e < m → Numbered (partner_of p e)
 
@@ -43,7 +44,7 @@ pub record ReachTable (m : ℕ) (needs : Rel) (t : List (List ℕ)) : Type 0 whe
   pub all : (e f : ℕ) → e < m → f < m → Reaches needs e f → occurs_at t e f ≡ true
 
 -- the placing as it is handed back: equation numbers in solving order, block numbers, and 0 beyond the last equation
-pub record PlacingIs (m : ℕ) (needs : Rel) (order : List Equation) (block : List ℕ) (blocks : ℕ) : Type 0 where
+pub record PlacingIs (m : ℕ) (needs : Rel) (order : List (Option Equation)) (block : List ℕ) (blocks : ℕ) : Type 0 where
   pub placed : Placed m needs (λ i. equation_at order i - 1) (number_at block) blocks
   pub numbers : (i : ℕ) → i < m → 1 ≤ equation_at order i
   pub no_equation : (i : ℕ) → m ≤ i → equation_at order i ≡ 0

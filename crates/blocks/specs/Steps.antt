@@ -1,5 +1,7 @@
 -- How the functions of this crate go: what their inner contracts cite. Nothing here is needed to read what the crate promises.
 use Rattle.std.specs.Prelude.{◌≡◌, Bool, true, false, not, ◌&&◌, ◌||◌, List, ℕ, zero, suc, ◌+◌, ◌<◌, ◌≤◌, ltb, eqb}
+use Rattle.std.specs.declared.option.Option.{Option}
+use Rattle.std.specs.declared.option.Option.TheVariants.{None, Some}
 use Rattle.laws.specs.Count.{count, any}
 use Rattle.laws.specs.Tab.{pick, number_at}
 use Rattle.table.specs.Model.{code_at}
@@ -33,11 +35,10 @@ keeps_at T num e g = T e g && (not (T g e) && eqb (num g) 0)
 abbrev pub waits_at : ℕ → Rel → (ℕ → ℕ) → ℕ → Bool
 waits_at m T num e = eqb (num e) 0 && not (any m (keeps_at T num e))
 
--- the lowest that waits, or m where none does
-pub record Lowest (m : ℕ) (T : Rel) (num : ℕ → ℕ) (e : ℕ) : Type 0 where
-  pub found : e < m → waits_at m T num e ≡ true
-  pub none : (f : ℕ) → f < e → waits_at m T num f ≡ false
-  pub most : e ≤ m
+-- the lowest that waits, or none where none does
+abbrev pub Lowest : ℕ → Rel → (ℕ → ℕ) → Option ℕ → Type 0
+Lowest m T num (Some e) = (e < m) × (waits_at m T num e ≡ true) × ((f : ℕ) → f < e → waits_at m T num f ≡ false)
+Lowest m T num None = (f : ℕ) → f < m → waits_at m T num f ≡ false
 
 -- e's block gets number k
 abbrev pub renumbered : Rel → (ℕ → ℕ) → ℕ → ℕ → ℕ → ℕ
@@ -52,7 +53,7 @@ abbrev pub place_of : ℕ → (ℕ → ℕ) → ℕ → ℕ
 place_of m num e = count m (λ f. earlier_at num f e)
 
 -- the equations below e stand at their places, with their numbers, and beyond the last equation there is nothing
-pub record Standing (m : ℕ) (num : ℕ → ℕ) (order : List Equation) (block : List ℕ) (e : ℕ) : Type 0 where
+pub record Standing (m : ℕ) (num : ℕ → ℕ) (order : List (Option Equation)) (block : List ℕ) (e : ℕ) : Type 0 where
   pub equation : (f : ℕ) → f < e → equation_at order (place_of m num f) ≡ f + 1
   pub number : (f : ℕ) → f < e → number_at block (place_of m num f) ≡ num f
   pub no_equation : (i : ℕ) → m ≤ i → equation_at order i ≡ 0

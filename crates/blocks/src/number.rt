@@ -5,112 +5,99 @@ ghost use Rattle.table.specs.Model.{limit, occurs_at};
 ghost use Rattle.blocks.specs.Handed.{Closed};
 ghost use Rattle.blocks.specs.Steps.{both, keeps_at, waits_at, Lowest, renumbered, AllNumbered};
 
-use table::LIMIT;
+use laws::array::tabulated;
+use table::{LIMIT, Row, Rows};
 
 // For each equation the number of its block, and how many blocks there are.
 #[derive(Clone, Copy)]
 pub struct BlockNumbers {
-    pub number: [u8; LIMIT],
+    pub number: Row,
     pub blocks: u8,
 }
 
-// Two equations share a block.
-fn share(reach: &[[u8; LIMIT]; LIMIT], e: usize, f: usize) -> bool
-    requires { (e < limit) × (f < limit) }
-    ensures { result ≡ both (occurs_at reach.now) e f }
-{
-    if reach[e][f] == 0 {
-        return false;
-    }
-    reach[f][e] != 0
+// The blocks as far as they stand: each equation's block number, or 0, beside what each equation reaches.
+#[derive(Clone, Copy)]
+struct StandingBlocks<'a> {
+    reach: &'a Rows,
+    equations: usize,
+    number: Row,
 }
 
-// The equation at place g keeps that at place e waiting: it stands in another block, which e's block needs and which does not stand yet.
-fn keeps(reach: &[[u8; LIMIT]; LIMIT], number: &[u8; LIMIT], e: usize, g: usize) -> bool
-    requires { (e < limit) × (g < limit) }
-    ensures { result ≡ keeps_at (occurs_at reach.now) (number_at number.now) e g }
-{
-    if reach[e][g] == 0 {
-        return false;
+impl StandingBlocks<'_> {
+    // Two equations share a block.
+    fn share(&self, e: usize, f: usize) -> bool
+        requires { (e < limit) × (f < limit) }
+        ensures { result ≡ both (occurs_at self.now.reach.now) e f }
+    {
+        self.reach[e][f] != 0 && self.reach[f][e] != 0
     }
-    if reach[g][e] != 0 {
-        return false;
-    }
-    number[g] == 0
-}
 
-// The block of the equation at place e does not stand yet and is ready.
-fn waits(reach: &[[u8; LIMIT]; LIMIT], equations: usize, number: &[u8; LIMIT], e: usize) -> bool
-    requires { (equations ≤ limit) × (e < limit) }
-    ensures { result ≡ waits_at equations (occurs_at reach.now) (number_at number.now) e }
-{
-    if number[e] != 0 {
-        return false;
+    // The equation at place g keeps that at place e waiting: it stands in another block, which e's block needs and which does not stand yet.
+    fn keeps(&self, e: usize, g: usize) -> bool
+        requires { (e < limit) × (g < limit) }
+        ensures { result ≡ keeps_at (occurs_at self.now.reach.now) (number_at self.now.number) e g }
+    {
+        self.reach[e][g] != 0 && self.reach[g][e] == 0 && self.number[g] == 0
     }
-    let mut g = 0;
-    while g < equations {
-        if keeps(reach, number, e, g) {
-            return false;
-        }
-        g += 1;
-    }
-    true
-}
 
-// The place of the lowest equation whose block is ready, or the number of equations where none is.
-#[tactic(auto, using(crate::proofs::Numbering::seek_found, crate::proofs::Numbering::seek_kept, crate::proofs::Numbering::seek_past, crate::proofs::Numbering::seek_start, crate::proofs::Numbering::seek_end))]
-fn lowest(reach: &[[u8; LIMIT]; LIMIT], equations: usize, number: &[u8; LIMIT]) -> usize
-    requires { equations ≤ limit }
-    ensures { Lowest equations (occurs_at reach.now) (number_at number.now) result }
-{
-    let mut best = equations;
-    let mut e = 0;
-    while e < equations {
-        if e < best {
-            if waits(reach, equations, number, e) {
-                best = e;
-            }
-        }
-        e += 1;
+    // The block of the equation at place e does not stand yet and is ready.
+    fn waits(&self, e: usize) -> bool
+        requires { (self.now.equations ≤ limit) × (e < limit) }
+        ensures { result ≡ waits_at self.now.equations (occurs_at self.now.reach.now) (number_at self.now.number) e }
+    {
+        self.number[e] == 0 && !(0..self.equations).any(|g| self.keeps(e, g))
     }
-    best
-}
 
-// The number that the equation at place f has when the block of that at place e gets number k.
-fn numbered(reach: &[[u8; LIMIT]; LIMIT], number: &[u8; LIMIT], e: usize, k: u8, f: usize) -> u8
-    requires { (e < limit) × (f < limit) }
-    ensures { result ≡ renumbered (occurs_at reach.now) (number_at number.now) e k f }
-{
-    if share(reach, e, f) { k } else { number[f] }
-}
-
-// The numbers when the block of the equation at place e gets number k.
-fn renumber(reach: &[[u8; LIMIT]; LIMIT], number: &[u8; LIMIT], e: usize, k: u8) -> [u8; LIMIT]
-    requires { e < limit }
-    ensures { result ≡ tab limit (renumbered (occurs_at reach.now) (number_at number.now) e k) }
-{
-    let mut next = [0u8; LIMIT];
-    let mut f = 0;
-    while f < LIMIT {
-        next[f] = numbered(reach, number, e, k, f);
-        f += 1;
+    // The place of the lowest equation whose block is ready.
+    fn lowest(&self) -> Option<usize>
+        requires { self.now.equations ≤ limit }
+        ensures { Lowest self.now.equations (occurs_at self.now.reach.now) (number_at self.now.number) result }
+    {
+        (0..self.equations).find(|&e| self.waits(e))
     }
-    next
+
+    // The number that the equation at place f has when the block of that at place e gets number k.
+    fn numbered(&self, e: usize, k: u8, f: usize) -> u8
+        requires { (e < limit) × (f < limit) }
+        ensures { result ≡ renumbered (occurs_at self.now.reach.now) (number_at self.now.number) e k f }
+    {
+        if self.share(e, f) { k } else { self.number[f] }
+    }
+
+    // The same when the block of the equation at place e gets number k.
+    fn renumber(&self, e: usize, k: u8) -> Self
+        requires { e < limit }
+        ensures { (result.reach.now ≡ self.now.reach.now) × (result.equations ≡ self.now.equations)
+            × (result.number ≡ tab limit (renumbered (occurs_at self.now.reach.now) (number_at self.now.number) e k)) }
+    {
+        let number = tabulated(
+            LIMIT,
+            0,
+            |f| -> u8
+                requires { (e < limit) × (f < limit) }
+                ensures { result ≡ renumbered (occurs_at self.entry.now.reach.now) (number_at self.entry.now.number) e k f }
+            { self.numbered(e, k, f) },
+        );
+        StandingBlocks { number, ..*self }
+    }
 }
 
 // All blocks get their numbers, from 1.
-pub fn numbers(reach: &[[u8; LIMIT]; LIMIT], equations: usize) -> BlockNumbers
+#[tactic(auto, using(crate::proofs::Numbering::counting_end))]
+pub fn numbers(reach: &Rows, equations: usize) -> BlockNumbers
     requires { (equations ≤ limit) × Closed equations (occurs_at reach.now) }
     ensures { AllNumbered equations (occurs_at reach.now) (number_at result.number) result.blocks }
 {
-    let mut number = [0u8; LIMIT];
-    let mut blocks = 0u8;
-    let mut e = lowest(reach, equations, &number);
-    while e < equations {
-        let stood = blocks;
-        blocks = stood + 1;
-        number = renumber(reach, &number, e, blocks);
-        e = lowest(reach, equations, &number);
+    let mut standing = StandingBlocks {
+        reach,
+        equations,
+        number: [0; LIMIT],
+    };
+    let mut blocks = 0;
+    while let Some(e) = standing.lowest() {
+        standing = standing.renumber(e, blocks + 1);
+        blocks += 1;
     }
+    let number = standing.number;
     BlockNumbers { number, blocks }
 }

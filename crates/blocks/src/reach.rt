@@ -2,22 +2,22 @@
 ghost use Rattle.std.specs.Prelude.{◌≡◌, ◌<◌, ◌≤◌, eqb, get_or};
 ghost use Rattle.laws.specs.Count.{bit};
 ghost use Rattle.laws.specs.Tab.{tab, pick};
-ghost use Rattle.table.specs.Model.{limit, occurs_at, square};
+ghost use Rattle.table.specs.Model.{limit, code_at, occurs_at, square};
 ghost use Rattle.blocks.specs.Handed.{Bits, ReachTable, Within};
 ghost use Rattle.blocks.specs.Steps.{at_once, either, through_code};
 
-use table::LIMIT;
+use laws::array::tabulated;
+use table::{LIMIT, Row, Rows};
 
 // Each equation reaches itself, and at once what it needs.
-fn at_once(needs: &[[u8; LIMIT]; LIMIT], equations: usize) -> [[u8; LIMIT]; LIMIT]
+#[tactic(auto, using(laws::proofs::Tab::fill_start, crate::proofs::Tables::own_next, crate::proofs::Tables::own_end))]
+fn at_once(needs: &Rows, equations: usize) -> Rows
     requires { (equations ≤ limit) × Bits needs.now }
     ensures { result ≡ square (λ e g. bit (at_once equations (occurs_at needs.now) e g)) }
 {
     let mut rows = *needs;
-    let mut e = 0;
-    while e < equations {
+    for e in 0..equations {
         rows[e][e] = 1;
-        e += 1;
     }
     rows
 }
@@ -30,20 +30,14 @@ fn either_of(code: u8, other: u8) -> u8
 }
 
 // What one of two equations reaches.
-fn joined(row: [u8; LIMIT], other: [u8; LIMIT]) -> [u8; LIMIT]
+fn joined(row: Row, other: Row) -> Row
     ensures { result ≡ tab limit (λ g. either (get_or row g 0) (get_or other g 0)) }
 {
-    let mut all = [0u8; LIMIT];
-    let mut g = 0;
-    while g < LIMIT {
-        all[g] = either_of(row[g], other[g]);
-        g += 1;
-    }
-    all
+    tabulated(LIMIT, 0, |g| either_of(row[g], other[g]))
 }
 
 // What an equation reaches besides if the way may lead through the equation at place k, whose row is the second.
-fn row_through(row: [u8; LIMIT], other: [u8; LIMIT], k: usize) -> [u8; LIMIT]
+fn row_through(row: Row, other: Row, k: usize) -> Row
     requires { k < limit }
     ensures { result ≡ tab limit (λ g. pick (eqb (get_or row k 0) 0) (get_or row g 0) (either (get_or row g 0) (get_or other g 0))) }
 {
@@ -51,31 +45,28 @@ fn row_through(row: [u8; LIMIT], other: [u8; LIMIT], k: usize) -> [u8; LIMIT]
 }
 
 // The same for every equation.
-fn through(reach: &[[u8; LIMIT]; LIMIT], k: usize) -> [[u8; LIMIT]; LIMIT]
+fn through(reach: &Rows, k: usize) -> Rows
     requires { k < limit }
     ensures { result ≡ square (through_code reach.now k) }
 {
-    let other = reach[k];
-    let mut rows = [[0u8; LIMIT]; LIMIT];
-    let mut e = 0;
-    while e < LIMIT {
-        let row = reach[e];
-        rows[e] = row_through(row, other, k);
-        e += 1;
-    }
-    rows
+    tabulated(
+        LIMIT,
+        [0; LIMIT],
+        |e|
+            requires { (e < limit) × (k < limit) }
+            ensures { result ≡ tab limit (through_code reach.entry.now k e) }
+        { row_through(reach[e], reach[k], k) },
+    )
 }
 
 // What each equation reaches, as a table: 1 where the row's equation reaches the column's, 0 elsewhere.
-pub fn reach(needs: &[[u8; LIMIT]; LIMIT], equations: usize) -> [[u8; LIMIT]; LIMIT]
+pub fn reach(needs: &Rows, equations: usize) -> Rows
     requires { (equations ≤ limit) × Bits needs.now × Within equations (occurs_at needs.now) }
     ensures { ReachTable equations (occurs_at needs.now) result }
 {
     let mut rows = at_once(needs, equations);
-    let mut k = 0;
-    while k < equations {
+    for k in 0..equations {
         rows = through(&rows, k);
-        k += 1;
     }
     rows
 }

@@ -11,6 +11,7 @@ use borrow.Author.Tests.{ltb-true, ltb-false}
 use Rattle.laws.specs.Count.{sum}
 use Rattle.laws.proofs.Tests.{test}
 use Rattle.table.specs.Model.{limit, occurs_at, order_at}
+use Rattle.std.specs.declared.option.Option.{Option}
 use Rattle.table.specs.declared.number.Equation.{Equation}
 use Rattle.pairing.specs.Pairing.{Full}
 use Rattle.pairing.specs.Holders.{held}
@@ -23,7 +24,7 @@ use Rattle.counts.proofs.Gap.{count_bound}
 use Rattle.counts.proofs.Work.{orders, rows_lead}
 
 -- two answers to one table have the same counts and tops; which full pairing comes with them is left open
-module _ (n : ℕ) (t : List (List ℕ)) (c d c' d' : List ℕ) (h h' : List Equation) (a : Chosen n t c d h) (a' : Chosen n t c' d' h') where
+module _ (n : ℕ) (t : List (List ℕ)) (c d c' d' : List ℕ) (h h' : List (Option Equation)) (a : Chosen n t c d h) (a' : Chosen n t c' d' h') where
   pub one_counts : length c ≡ length c' → c ≡ c'
   one_counts same = ext_get_or 0 c c' same (λ e b. test (ltb e n)
       (λ k. one_count n n (occurs_at t) (order_at t) (number_at c) (number_at d) (number_at c') (number_at d') a.least a'.least e (ltb-true e n k))
@@ -34,7 +35,7 @@ module _ (n : ℕ) (t : List (List ℕ)) (c d c' d' : List ℕ) (h h' : List Equ
       (λ k. one_top n (occurs_at t) (order_at t) (number_at c) (number_at d) (number_at c') (number_at d') a.least a'.least u (ltb-true u n k))
       (λ k. let x = a.tops_beyond u (ltb-false u n k) in let y = a'.tops_beyond u (ltb-false u n k) in omega arith))
 
-module _ (n : ℕ) (t : List (List ℕ)) (can : Pairable n t) (c d : List ℕ) (h : List Equation) (a : Chosen n t c d h) where
+module _ (n : ℕ) (t : List (List ℕ)) (can : Pairable n t) (c d : List ℕ) (h : List (Option Equation)) (a : Chosen n t c d h) where
   pub counts_bound : (e : ℕ) → e < n → number_at c e ≤ (n - 1) * top_order
   counts_bound = count_bound n n top_order (occurs_at t) (order_at t) (orders n t can) (number_at c) (number_at d) a.least
 

@@ -2,6 +2,7 @@
 pub mod Over
 pub mod Pairs
 pub mod High
+pub mod Places
 pub mod Fit
 pub mod Gap
 pub mod Raising

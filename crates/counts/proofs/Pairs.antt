@@ -10,6 +10,7 @@ use borrow.Author.Tests.{eqb-true}
 use Rattle.laws.proofs.Tab.{copies_at}
 use Rattle.laws.proofs.Tests.{test, tests, either}
 use Rattle.table.specs.Model.{limit}
+use Rattle.std.specs.declared.option.Option.{Option}
 use Rattle.table.specs.declared.number.Equation.{Equation}
 use Rattle.pairing.specs.Pairing.{Rel}
 use Rattle.pairing.specs.Holders.{held, Asking, Found, Nothing}
@@ -24,20 +25,17 @@ over_paired p to = record {
   waiting = p.waiting;
 }
 
-module _ {n : ℕ} {edge : Rel} {f : ℕ} {h : List Equation} (p : Paired n edge f (held h)) where
+module _ {n : ℕ} {edge : Rel} {f : ℕ} {h : List (Option Equation)} (p : Paired n edge f (held h)) where
   -- the next equation may search
   pub may_search : n ≤ limit → f < n → Asking n n edge f (replicate limit false) h
   may_search w b = record { equations = w; unknowns = w; asker = b; fresh = copies_at limit false f; free = p.waiting f (omega arith); ok = p.pairs }
 
-  pub paired_next : {k : List Equation} → Found n n edge f (replicate limit false) h k → Paired n edge (f + 1) (held k)
+  pub paired_next : {k : List (Option Equation)} → Found n n edge f (replicate limit false) h k → Paired n edge (f + 1) (held k)
   paired_next got = record {
     pairs = got.ok;
     placed = λ e l. test (eqb e f) (λ t. rw (eqb-true e f t) got.gained) (λ t. got.kept e (p.placed e (omega (arith, tests))));
     waiting = λ e l u m. either (got.none_else e (u, m)) (λ z. absurd (omega arith)) (λ (v, k). p.waiting e (omega arith) v k);
   }
-
-  pub went_all : (a : List Bool) → f ≡ n → Went n edge n h a
-  went_all a q = record { upto = rw q at p; far = omega arith; stopped = λ l. absurd (omega arith) }
 
   pub went_some : {a : List Bool} → f < n → Nothing n edge f (replicate limit false) a h → Went n edge f h a
   went_some l none = record { upto = p; far = omega arith; stopped = λ _. none }

@@ -15,14 +15,17 @@ use Rattle.laws.proofs.Tests.{test, either, given, clash, tests, not_true, and_l
 use Rattle.laws.proofs.Sum.{bit_false}
 use Rattle.laws.proofs.Tab.{get_or_tab, get_or_past, copies_at}
 use Rattle.table.specs.Model.{limit, code_at, occurs_at, order_at, square}
+use Rattle.std.specs.declared.option.Option.{Option}
+use Rattle.std.specs.declared.option.Option.TheVariants.{None}
 use Rattle.table.specs.declared.number.Equation.{Equation}
+use Rattle.table.specs.Number.{equation_number, or_zero}
 use Rattle.table.proofs.Model.{square_at}
 use Rattle.pairing.specs.Pairing.{Rel}
 use Rattle.pairing.specs.Holders.{holder, held, Reach, Nothing}
 use Rattle.pairing.proofs.Hall.{reach_within}
 use Rattle.counts.specs.Fit.{leading}
 use Rattle.counts.specs.Work.{top_order, high_at, tops_of, leading_at, leading_rows, Small, Pairable, Chosen}
-use Rattle.counts.specs.Kept.{KeptIn, Paired, raised_by}
+use Rattle.counts.specs.Kept.{KeptIn, Paired, Went, raised_by}
 use Rattle.counts.proofs.Over.{over_reach}
 use Rattle.counts.proofs.Pairs.{over_paired}
 use Rattle.counts.proofs.Raising.{AskedInVain, raised}
@@ -84,7 +87,7 @@ module _ (n : ℕ) (t : List (List ℕ)) (counts : List ℕ) (small : n ≤ limi
   to_lead e u o = given (rows_within n t counts (tops_of n t counts) small e u o) (λ (h, k). sym (same e u h k) ∙ o)
 
   -- a search that found nothing
-  pub stuck : (f : ℕ) (holders : List Equation) (asked : List Bool) → f < n → KeptIn n t f counts holders
+  pub stuck : (f : ℕ) (holders : List (Option Equation)) (asked : List Bool) → f < n → KeptIn n t f counts holders
       → Nothing n (rows_of n t counts) f (replicate limit false) asked holders → AskedInVain n n (lead_of n t counts) (held holders) f (marked asked)
   stuck f holders asked b p none = record {
     asker = b;
@@ -99,27 +102,33 @@ module _ (n : ℕ) (t : List (List ℕ)) (counts : List ℕ) (small : n ≤ limi
       reached e m = either (none.reached e m) (λ before. clash before (copies_at limit false e)) (λ r. over_reach to_lead r)
 
   -- what is paired, over the table of leading occurrences, and back
-  pub to_paired : (f : ℕ) (holders : List Equation) → KeptIn n t f counts holders → Paired n (rows_of n t counts) f (held holders)
+  pub to_paired : (f : ℕ) (holders : List (Option Equation)) → KeptIn n t f counts holders → Paired n (rows_of n t counts) f (held holders)
   to_paired f holders p = over_paired p.upto (λ e u h k l. same e u h k ∙ l)
 
-  pub from_paired : (f f' : ℕ) (holders holders' : List Equation) → KeptIn n t f counts holders → Paired n (rows_of n t counts) f' (held holders')
+  pub from_paired : (f f' : ℕ) (holders holders' : List (Option Equation)) → KeptIn n t f counts holders → Paired n (rows_of n t counts) f' (held holders')
       → KeptIn n t f' counts holders'
   from_paired f f' holders holders' p q = record { upto = over_paired q (λ e u h k l. to_lead e u l); low = p.low; room = p.room; beyond = p.beyond }
+
+-- what a raise brings nearer: the tops' sum to the counts' sum
+abbrev Nearer : ℕ → List (List ℕ) → List ℕ → List ℕ → Type 0
+Nearer n t counts next = sum n (high_at n t next) - sum n (number_at next) < sum n (high_at n t counts) - sum n (number_at counts)
 
 module _ (n : ℕ) (t : List (List ℕ)) (can : Pairable n t) where
   pub orders : (e u : ℕ) → e < n → u < n → order_at t e u ≤ top_order
   orders e u h k = let c = can.bounded.codes e u h k in omega arith
 
   -- before the first search
-  pub begin_in : KeptIn n t 0 (replicate limit 0) (replicate limit (record { 0 = 0 }))
-  begin_in = begin n (occurs_at t) (order_at t) (number_at (replicate limit 0)) (held (replicate limit (record { 0 = 0 }))) orders (λ e. copies_at {A = ℕ} limit 0 e)
+  pub begin_in : KeptIn n t 0 (replicate limit 0) (replicate limit None)
+  begin_in =
+      let nobody : List (Option Equation) = replicate limit None in
+      begin n (occurs_at t) (order_at t) (number_at (replicate limit 0)) (held nobody) orders (λ e. copies_at {A = ℕ} limit 0 e)
       (λ e u m.
-      let z : holder (replicate limit (record { 0 = 0 })) u ≡ 0 = ap (λ (x : Equation). x.0) (copies_at {A = Equation} limit (record { 0 = 0 }) u) in
-      let k = eqb-true (holder (replicate limit (record { 0 = 0 })) u) (suc e) m in
+      let z : holder nobody u ≡ 0 = ap (or_zero equation_number) (copies_at {A = Option Equation} limit None u) in
+      let k = eqb-true (holder nobody u) (suc e) m in
       omega arith)
 
   -- order + count fits a byte all the way
-  pub small_in : (f : ℕ) (counts : List ℕ) (holders : List Equation) → KeptIn n t f counts holders → Small n t counts
+  pub small_in : (f : ℕ) (counts : List ℕ) (holders : List (Option Equation)) → KeptIn n t f counts holders → Small n t counts
   small_in f counts holders p = record {
     bounded = can.bounded;
     few = λ e h. let k = count_few n (occurs_at t) (order_at t) can.pairs can.full f (number_at counts) (held holders) p e h in
@@ -127,7 +136,7 @@ module _ (n : ℕ) (t : List (List ℕ)) (can : Pairable n t) where
   }
 
   -- one raise of the list
-  module _ (f : ℕ) (counts : List ℕ) (holders : List Equation) (asked : List Bool) (b : f < n) (p : KeptIn n t f counts holders)
+  module _ (f : ℕ) (counts : List ℕ) (holders : List (Option Equation)) (asked : List Bool) (b : f < n) (p : KeptIn n t f counts holders)
       (none : Nothing n (rows_of n t counts) f (replicate limit false) asked holders) where
     raised_list : number_at (raised_by n counts asked) ≡ raised (number_at counts) (marked asked)
     raised_list = fun_ext at_each
@@ -146,16 +155,23 @@ module _ (n : ℕ) (t : List (List ℕ)) (can : Pairable n t) where
             (λ w. get_or_past limit (λ e. pick (ltb e n) (number_at counts e + bit (marked asked e)) 0) e 0 (ltb-false e limit w)) in
             omega arith)
 
-    pub raise_in : KeptIn n t f (raised_by n counts asked) holders
-    raise_in = rw raised_list (raise n (occurs_at t) (order_at t) can.pairs can.full f (number_at counts) (held holders) (marked asked) p
-        (stuck n t counts can.bounded.equations f holders asked b p none))
+    raise_in : KeptIn n t f (raised_by n counts asked) holders × Nearer n t counts (raised_by n counts asked)
+    raise_in =
+        let vain = stuck n t counts can.bounded.equations f holders asked b p none in
+        rw raised_list (
+          raise n (occurs_at t) (order_at t) can.pairs can.full f (number_at counts) (held holders) (marked asked) p vain,
+          nearer n (occurs_at t) (order_at t) can.pairs can.full f (number_at counts) (held holders) (marked asked) p vain,
+        )
 
-    pub nearer_in : sum n (high_at n t (raised_by n counts asked)) - sum n (number_at (raised_by n counts asked)) < sum n (high_at n t counts) - sum n (number_at counts)
-    nearer_in = rw raised_list (nearer n (occurs_at t) (order_at t) can.pairs can.full f (number_at counts) (held holders) (marked asked) p
-        (stuck n t counts can.bounded.equations f holders asked b p none))
+  -- a pairing that went on and stopped, and then a raise
+  pub risen : (f : ℕ) (counts : List ℕ) (holders : List (Option Equation)) → KeptIn n t f counts holders
+      → (f' : ℕ) (holders' : List (Option Equation)) (asked : List Bool) → f' < n → Went n (rows_of n t counts) f' holders' asked
+      → KeptIn n t f' (raised_by n counts asked) holders' × Nearer n t counts (raised_by n counts asked)
+  risen f counts holders p f' holders' asked b went =
+      raise_in f' counts holders' asked b (from_paired n t counts can.bounded.equations f f' holders holders' p went.upto) (went.stopped b)
 
   -- after the last search
-  pub answer : (counts : List ℕ) (holders : List Equation) → KeptIn n t n counts holders → Chosen n t counts (tops_of n t counts) holders
+  pub answer : (counts : List ℕ) (holders : List (Option Equation)) → KeptIn n t n counts holders → Chosen n t counts (tops_of n t counts) holders
   answer counts holders p =
       let tops = tops_at n t counts can.bounded.equations in
       record {

@@ -4,6 +4,7 @@ use Rattle.laws.specs.Count.{bit, sum}
 use Rattle.laws.specs.Marks.{marked}
 use Rattle.laws.specs.Tab.{tab, pick, number_at}
 use Rattle.table.specs.Model.{limit, occurs_at, order_at}
+use Rattle.std.specs.declared.option.Option.{Option}
 use Rattle.table.specs.declared.number.Equation.{Equation}
 use Rattle.pairing.specs.Pairing.{Rel, Pairing, LeftOver}
 use Rattle.pairing.specs.Holders.{held, Nothing}
@@ -25,7 +26,7 @@ pub record Kept (n : ℕ) (edge : Rel) (ord : ℕ → ℕ → ℕ) (f : ℕ) (c 
   pub beyond : (e : ℕ) → n ≤ e → c e ≡ 0
 
 -- the same of a table, a list of counts and the holders
-abbrev pub KeptIn : ℕ → List (List ℕ) → ℕ → List ℕ → List Equation → Type 0
+abbrev pub KeptIn : ℕ → List (List ℕ) → ℕ → List ℕ → List (Option Equation) → Type 0
 KeptIn n t f counts holders = Kept n (occurs_at t) (order_at t) f (number_at counts) (held holders)
 
 -- 1 more for each that is marked, as far as n, and 0 beyond
@@ -33,7 +34,7 @@ abbrev pub raised_by : ℕ → List ℕ → List Bool → List ℕ
 raised_by n counts asked = tab limit (λ e. pick (ltb e n) (number_at counts e + bit (marked asked e)) 0)
 
 -- how far the pairing went: all are paired, or the search of the equation at place f found nothing
-pub record Went (n : ℕ) (edge : Rel) (f : ℕ) (holders : List Equation) (asked : List Bool) : Type 0 where
+pub record Went (n : ℕ) (edge : Rel) (f : ℕ) (holders : List (Option Equation)) (asked : List Bool) : Type 0 where
   pub upto : Paired n edge f (held holders)
   pub far : f ≤ n
   pub stopped : f < n → Nothing n edge f (replicate limit false) asked holders

@@ -3,6 +3,7 @@ use Rattle.std.specs.Prelude.{◌≡◌, ◌&&◌, List, ℕ, ◌-◌, ◌*◌, 
 use Rattle.laws.specs.Count.{bit}
 use Rattle.laws.specs.Tab.{tab, pick, number_at}
 use Rattle.table.specs.Model.{limit, top_code, Bounded, occurs_at, order_at, square}
+use Rattle.std.specs.declared.option.Option.{Option}
 use Rattle.table.specs.declared.number.Equation.{Equation}
 use Rattle.pairing.specs.Pairing.{Rel, Full}
 use Rattle.pairing.specs.Holders.{held}
@@ -39,7 +40,7 @@ pub record Pairable (n : ℕ) (t : List (List ℕ)) : Type 0 where
   pub full : Full n n (occurs_at t) pairs
 
 -- the answer: the least counts, their tops, and a pairing of all equations over the leading occurrences; 0 beyond the last equation and unknown
-pub record Chosen (n : ℕ) (t : List (List ℕ)) (counts tops : List ℕ) (holders : List Equation) : Type 0 where
+pub record Chosen (n : ℕ) (t : List (List ℕ)) (counts tops : List ℕ) (holders : List (Option Equation)) : Type 0 where
   pub least : Least n n (occurs_at t) (order_at t) (number_at counts) (number_at tops)
   pub paired : Full n n (leading_at t counts tops) (held holders)
   pub counts_beyond : (e : ℕ) → n ≤ e → number_at counts e ≡ 0

@@ -1,52 +1,43 @@
 // Two figures of the answer: index and freedom.
-ghost use Rattle.std.specs.Prelude.{◌≡◌, ◌-◌, ◌≤◌};
+ghost use Rattle.std.specs.Prelude.{◌≡◌, ◌-◌, ◌≤◌, length, max};
+ghost use Rattle.std.specs.List.{fold, sum_by};
 ghost use Rattle.laws.specs.Count.{sum};
 ghost use Rattle.table.specs.Model.{limit};
 ghost use Rattle.counts.specs.Fit.{index_of, freedom_of};
 ghost use Rattle.laws.specs.Tab.{number_at};
 
-use crate::tops::larger;
-use table::LIMIT;
+use table::Row;
+
+// The largest of the numbers, and 0 where there is none.
+fn most(numbers: &[u8]) -> u8
+    ensures { result ≡ fold max 0 numbers.now }
+{
+    numbers.iter().fold(0, |most, &number| most.max(number))
+}
 
 // Index: the largest count.
-pub fn index(n: usize, counts: &[u8; LIMIT]) -> u8
+#[tactic(auto, using(crate::proofs::Places::largest_first))]
+pub fn index(n: usize, counts: &Row) -> u8
     requires { n ≤ limit }
     ensures { result ≡ index_of n (number_at counts.now) }
 {
-    let mut most = 0u8;
-    let mut e = 0;
-    while e < n {
-        most = larger(counts[e], most);
-        e += 1;
-    }
-    most
+    most(&counts[..n])
 }
 
-fn wide(x: u8) -> usize
-    ensures { (result ≡ x) × (result ≤ 255) }
+// The sum of the numbers.
+fn total(numbers: &[u8]) -> usize
+    requires { length numbers.now ≤ limit }
+    ensures { result ≡ sum_by (λ x. x) numbers.now }
 {
-    x as usize
-}
-
-// The sum of the first n numbers.
-fn total(n: usize, numbers: &[u8; LIMIT]) -> usize
-    requires { n ≤ limit }
-    ensures { result ≡ sum n (number_at numbers.now) }
-{
-    let mut all: usize = 0;
-    let mut i = 0;
-    while i < n {
-        all += wide(numbers[i]);
-        i += 1;
-    }
-    all
+    numbers.iter().map(|&x| usize::from(x)).sum()
 }
 
 // Freedom: sum of tops less sum of counts. Of a fit choice it is at most 3 for each equation, so it fits.
-pub fn freedom(n: usize, counts: &[u8; LIMIT], tops: &[u8; LIMIT]) -> u8
+#[tactic(auto, using(crate::proofs::Places::sum_first))]
+pub fn freedom(n: usize, counts: &Row, tops: &Row) -> u8
     requires { (n ≤ limit) × (sum n (number_at counts.now) ≤ sum n (number_at tops.now))
         × (freedom_of n n (number_at counts.now) (number_at tops.now) ≤ 255) }
     ensures { result ≡ freedom_of n n (number_at counts.now) (number_at tops.now) }
 {
-    (total(n, tops) - total(n, counts)) as u8
+    (total(&tops[..n]) - total(&counts[..n])) as u8
 }

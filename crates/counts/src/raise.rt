@@ -1,6 +1,6 @@
 // The least counts of a model that has a pairing of all its equations. Each equation in turn searches over the leading occurrences; as long as it
 // finds nothing, all that were asked are differentiated once more. Some pairing of all equations is what makes the raising end.
-ghost use Rattle.std.specs.Prelude.{◌≡◌, false, ℕ, ◌+◌, ◌*◌, ◌<◌, ◌≤◌};
+ghost use Rattle.std.specs.Prelude.{◌≡◌, MatchResult, ℕ, ◌+◌, ◌*◌, ◌<◌, ◌≤◌};
 ghost use Rattle.laws.specs.Count.{bit};
 ghost use Rattle.table.specs.Model.{limit, occurs_at};
 ghost use Rattle.pairing.specs.Holders.{held};
@@ -10,50 +10,38 @@ ghost use Rattle.counts.specs.Kept.{KeptIn, Paired, Went, raised_by};
 
 use crate::lead::leading_rows;
 use crate::tops::tops;
+use laws::array::tabulated;
 use pairing::search::search;
-use table::LIMIT;
-use table::number::Equation;
+use pairing::{Holders, Marks};
+use table::number::{Counted, Equation};
+use table::{LIMIT, Row, Rows};
 
-// How far the equations are paired in turn, who holds each unknown (an equation's number, or 0), and whom the next equation asked in vain.
+// The search of the equation at place `paired` found nothing: those before it are paired, who holds each unknown, and whom it asked in vain.
 #[derive(Clone, Copy)]
-struct Progress {
+struct Stopped {
     paired: usize,
-    holders: [Equation; LIMIT],
-    asked: [bool; LIMIT],
+    holders: Holders,
+    asked: Marks,
 }
 
 // The least counts by equation, the tops by unknown, and a full pairing over the leading occurrences, as holders.
 #[derive(Clone, Copy)]
 pub struct Choice {
-    pub counts: [u8; LIMIT],
-    pub tops: [u8; LIMIT],
-    pub holders: [Equation; LIMIT],
-}
-
-// One more for an equation that was asked.
-fn one_more(count: u8, asked: bool) -> u8
-    requires { count ≤ limit * top_order }
-    ensures { result ≡ count + bit asked }
-{
-    if asked { count + 1 } else { count }
+    pub counts: Row,
+    pub tops: Row,
+    pub holders: Holders,
 }
 
 // One more for each that was asked.
-fn raised(n: usize, counts: &[u8; LIMIT], asked: &[bool; LIMIT]) -> [u8; LIMIT]
+fn raised(n: usize, counts: &Row, asked: &Marks) -> Row
     requires { (n ≤ limit) × ((e : ℕ) → e < n → number_at counts.now e ≤ limit * top_order) }
     ensures { result ≡ raised_by n counts.now asked.now }
 {
-    let mut next = [0u8; LIMIT];
-    let mut e = 0;
-    while e < n {
-        next[e] = one_more(counts[e], asked[e]);
-        e += 1;
-    }
-    next
+    tabulated(n, 0, |e| counts[e] + u8::from(asked[e]))
 }
 
 // The table of leading occurrences of the counts with their tops.
-fn leading_of(table: &[[u8; LIMIT]; LIMIT], n: usize, counts: &[u8; LIMIT]) -> [[u8; LIMIT]; LIMIT]
+fn leading_of(table: &Rows, n: usize, counts: &Row) -> Rows
     requires { Small n table.now counts.now }
     ensures { result ≡ leading_rows n table.now counts.now (tops_of n table.now counts.now) }
 {
@@ -61,45 +49,30 @@ fn leading_of(table: &[[u8; LIMIT]; LIMIT], n: usize, counts: &[u8; LIMIT]) -> [
     leading_rows(table, n, counts, &tops)
 }
 
-// The equations from one on are paired in turn over the leading occurrences, as far as that goes.
-fn pair_on(
-    leading: &[[u8; LIMIT]; LIMIT],
-    n: usize,
-    from: usize,
-    holders: [Equation; LIMIT],
-) -> Progress
+// The equations from one on are paired in turn over the leading occurrences: all of them, or as far as that goes.
+fn pair_on(leading: &Rows, n: usize, from: usize, holders: Holders) -> Result<Holders, Stopped>
     requires { (n ≤ limit) × (from ≤ n) × Paired n (occurs_at leading.now) from (held holders) }
-    ensures { Went n (occurs_at leading.now) result.paired result.holders result.asked }
+    ensures { MatchResult result (λ all. Paired n (occurs_at leading.now) n (held all))
+        (λ stopped. (stopped.paired < n) × Went n (occurs_at leading.now) stopped.paired stopped.holders stopped.asked) }
 {
     let mut holders = holders;
-    let mut f = from;
-    while f < n {
-        let answer = search(leading, n, Equation::at(f), holders, [false; LIMIT]);
-        if answer.got.0 == 0 {
+    for paired in from..n {
+        let answer = search(leading, n, Equation::at(paired), holders, [false; LIMIT]);
+        if answer.got.is_none() {
             let asked = answer.asked;
-            return Progress {
-                paired: f,
+            return Err(Stopped {
+                paired,
                 holders,
                 asked,
-            };
+            });
         }
         holders = answer.holders;
-        f += 1;
     }
-    Progress {
-        paired: n,
-        holders,
-        asked: [false; LIMIT],
-    }
+    Ok(holders)
 }
 
 // The answer, once all equations are paired: the counts with their tops.
-fn chosen(
-    table: &[[u8; LIMIT]; LIMIT],
-    n: usize,
-    counts: [u8; LIMIT],
-    holders: [Equation; LIMIT],
-) -> Choice
+fn chosen(table: &Rows, n: usize, counts: Row, holders: Holders) -> Choice
     requires { Pairable n table.now × KeptIn n table.now n counts holders }
     ensures { Chosen n table.now result.counts result.tops result.holders }
 {
@@ -113,22 +86,22 @@ fn chosen(
 
 // The answer of document 01 for a solvable model of n equations: the fit choice whose every count is no larger than in any other fit choice.
 // Each raise brings the tops' sum nearer to the counts' sum, and it never falls below that.
-pub fn least(table: &[[u8; LIMIT]; LIMIT], n: usize) -> Choice
+pub fn least(table: &Rows, n: usize) -> Choice
     requires { Pairable n table.now }
     ensures { Chosen n table.now result.counts result.tops result.holders }
 {
-    let mut counts = [0u8; LIMIT];
-    let mut holders = [Equation(0); LIMIT];
+    let mut counts = [0; LIMIT];
+    let mut holders = [None; LIMIT];
     let mut paired = 0;
     loop {
         let leading = leading_of(table, n, &counts);
-        let progress = pair_on(&leading, n, paired, holders);
-        paired = progress.paired;
-        holders = progress.holders;
-        if paired == n {
-            return chosen(table, n, counts, holders);
+        match pair_on(&leading, n, paired, holders) {
+            Ok(all) => return chosen(table, n, counts, all),
+            Err(stopped) => {
+                counts = raised(n, &counts, &stopped.asked);
+                paired = stopped.paired;
+                holders = stopped.holders;
+            }
         }
-        let asked = progress.asked;
-        counts = raised(n, &counts, &asked);
     }
 }

@@ -1,52 +1,47 @@
 // The tops that belong to counts: for each unknown the largest order + count over its occurrences.
-ghost use Rattle.std.specs.Prelude.{◌≡◌, not, ◌+◌, ◌-◌, ◌*◌, ◌≤◌, max, eqb};
+ghost use Rattle.std.specs.Prelude.{◌≡◌, not, ◌+◌, ◌-◌, ◌*◌, ◌<◌, ◌≤◌, eqb};
 ghost use Rattle.laws.specs.Tab.{pick};
 ghost use Rattle.table.specs.Model.{limit, top_code};
+ghost use Rattle.table.specs.Number.{unknown_number};
 ghost use Rattle.counts.specs.Work.{top_order, Small, high_at, tops_of};
 
-use table::LIMIT;
-use table::number::{Equation, Unknown};
+use laws::array::tabulated;
+use table::number::{Counted, Equation, Unknown};
 use table::rows::code;
+use table::{Row, Rows};
 
-// The larger of two numbers.
-pub fn larger(a: u8, b: u8) -> u8
-    ensures { result ≡ max a b }
-{
-    if a < b { b } else { a }
-}
-
-// Order + count at an occurrence. Code 0 is no order at all: where the unknown does not occur nothing is asked of its top.
-fn lifted(code: u8, count: u8) -> u8
+// Order + count at an occurrence, and none where the unknown does not occur: code 0 is no order at all.
+pub(crate) fn lifted(code: u8, count: u8) -> Option<u8>
     requires { (code ≤ top_code) × (count ≤ limit * top_order) }
-    ensures { result ≡ pick (not (eqb code 0)) (code - 1 + count) 0 }
+    ensures { result ≡ pick (not (eqb code 0)) (Some (code - 1 + count)) None }
 {
-    if code == 0 { 0 } else { code - 1 + count }
+    code.checked_sub(1).map(|order| order + count)
 }
 
 // The largest order + count over the occurrences of one unknown.
-fn top(table: &[[u8; LIMIT]; LIMIT], n: usize, u: Unknown, counts: &[u8; LIMIT]) -> u8
-    requires { Small n table.now counts.now × (1 ≤ u.0) × (u.0 ≤ n) }
-    ensures { result ≡ high_at n table.now counts.now (u.0 - 1) }
+fn top(table: &Rows, n: usize, u: Unknown, counts: &Row) -> u8
+    requires { Small n table.now counts.now × (unknown_number u ≤ n) }
+    ensures { result ≡ high_at n table.now counts.now (unknown_number u - 1) }
 {
-    let mut most = 0u8;
-    let mut e = 0;
-    while e < n {
-        most = larger(lifted(code(table, Equation::at(e), u), counts[e]), most);
-        e += 1;
+    let mut most = 0;
+    for e in 0..n {
+        let here = lifted(code(table, Equation::at(e), u), counts[e]);
+        most = here.unwrap_or(0).max(most);
     }
     most
 }
 
 // The tops of all unknowns, and 0 beyond the last.
-pub fn tops(table: &[[u8; LIMIT]; LIMIT], n: usize, counts: &[u8; LIMIT]) -> [u8; LIMIT]
+pub fn tops(table: &Rows, n: usize, counts: &Row) -> Row
     requires { Small n table.now counts.now }
     ensures { result ≡ tops_of n table.now counts.now }
 {
-    let mut tops = [0u8; LIMIT];
-    let mut u = 0;
-    while u < n {
-        tops[u] = top(table, n, Unknown::at(u), counts);
-        u += 1;
-    }
-    tops
+    tabulated(
+        n,
+        0,
+        |u|
+            requires { Small n table.now counts.now × (u < n) }
+            ensures { result ≡ high_at n table.entry.now counts.entry.now u }
+        { top(table, n, Unknown::at(u), counts) },
+    )
 }

@@ -1,5 +1,6 @@
 -- Laws of lists given by a function of the place, and of a loop that fills one place after another.
 use mathlib.Core.Path.{◌≡◌, refl, ap, sym, ◌∙◌}
+use mathlib.Core.Bool.{Bool, true, false}
 use mathlib.Core.List.{List, ◌∷◌, map}
 use Prim.Native.Nat.{ℕ, zero, suc, ◌≤◌, ◌<◌, ◌+◌}
 use native.Mathlib.Omega.{arith}
@@ -85,3 +86,7 @@ whole_tab n f a = tab_ext n (λ i. pick (ltb i n) (f i) a) f (λ i b. rw (lt-ltb
 -- a list's image, given by what stands at its places
 pub map_tab : {A B : Type 0} (f : A → B) (l : List A) (d : A) (n : ℕ) → length l ≡ n → tab n (λ i. f (get_or l i d)) ≡ map f l
 map_tab f l d n e = sym (is_tab (map f l) (f d) n (λ i. f (get_or l i d)) (length-map l f ∙ e) (λ i b. get_or-map f l i d))
+
+pub pick_self : (b : Bool) → pick b true false ≡ b
+pick_self true = refl
+pick_self false = refl

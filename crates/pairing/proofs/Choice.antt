@@ -1,19 +1,22 @@
 -- The first full pairing is one: two of them agree at each equation once they agree before it, each being the lower there.
 -- And a full pairing as a relation and as a function are the same thing.
-use mathlib.Core.Path.{◌≡◌, refl, sym, ap, ◌∙◌}
+use mathlib.Core.Path.{◌≡◌, refl, sym, ◌∙◌}
 use mathlib.Core.Bool.{Bool, true, ◌&&◌}
 use mathlib.Core.List.{List}
 use Prim.Native.Nat.{ℕ, zero, suc, ◌<◌}
 use native.Mathlib.Omega.{arith}
 use native.Mathlib.Nat.{le_antisymm}
 use lib.Dec.{eqb, ltb}
-use lib.ListN.{length}
+use lib.ListN.{get_or, length}
 use lib.Seq.{ext_get_or}
 use borrow.Author.Tests.{ltb-true, ltb-false, lt-ltb, eqb-true, eq-eqb}
 use Rattle.laws.specs.Count.{any}
 use Rattle.laws.specs.Tab.{pick}
 use Rattle.laws.proofs.Tests.{test, either, given, clash, true≢false, and_left, and_right, and_both, or_cases}
+use Rattle.std.specs.declared.option.Option.{Option}
+use Rattle.std.specs.declared.option.Option.TheVariants.{None}
 use Rattle.table.specs.declared.number.Unknown.{Unknown}
+use Rattle.table.proofs.Same.{one_unknown}
 use Rattle.pairing.specs.Pairing.{Rel, Pairing, Full}
 use Rattle.pairing.specs.First.{Partners, First}
 use Rattle.pairing.specs.Handed.{partner_of, FirstIs}
@@ -30,8 +33,8 @@ module _ {m n : ℕ} {edge : Rel} {p q : ℕ → ℕ} (a : First m n edge p) (b 
   first_one e h = agree (suc e) e (omega arith) h
 
 -- so the lists of partners are one
-pub first_is_one : {n : ℕ} {edge : Rel} {l l' : List Unknown} → FirstIs n edge l → FirstIs n edge l' → length l ≡ length l' → l ≡ l'
-first_is_one {n} {l = l} {l'} a b e = ext_get_or (record { 0 = 0 }) l l' e (λ i _. ap {B = Unknown} (λ x. record { 0 = x }) (same i))
+pub first_is_one : {n : ℕ} {edge : Rel} {l l' : List (Option Unknown)} → FirstIs n edge l → FirstIs n edge l' → length l ≡ length l' → l ≡ l'
+first_is_one {n} {l = l} {l'} a b e = ext_get_or None l l' e (λ i _. one_unknown (get_or l i None) (get_or l' i None) (same i))
   where
     same : (i : ℕ) → partner_of l i ≡ partner_of l' i
     same i = test (ltb i n)

@@ -10,6 +10,7 @@ use native.Mathlib.Omega.{arith}
 use Rattle.laws.specs.Marks.{marked}
 use Rattle.laws.proofs.Tests.{test, either, given, clash, and_left, and_right, and_both}
 use Rattle.laws.proofs.Inject.{count_misses}
+use Rattle.std.specs.declared.option.Option.{Option}
 use Rattle.table.specs.declared.number.Equation.{Equation}
 use Rattle.pairing.specs.Pairing.{Rel, Pairing, LeftOver}
 use Rattle.pairing.specs.First.{Partners}
@@ -63,7 +64,7 @@ unfolding newly
 is_newly before after g t f = and_both t (rw f)
 
 -- a search that found nothing leaves no full pairing in which those asked before it have what they hold
-module _ {m n : ℕ} {edge : Rel} {f : ℕ} {before after : List Bool} {h : List Equation}
+module _ {m n : ℕ} {edge : Rel} {f : ℕ} {before after : List Bool} {h : List (Option Equation)}
     (a : Asking m n edge f before h) (r : Nothing n edge f before after h) where
   stuck : Stuck m n edge (held h) (newly before after) (marked before) f
   stuck = record {

@@ -8,12 +8,13 @@ use lib.Dec.{eqb}
 use borrow.Author.Tests.{eqb-true}
 use Rattle.laws.specs.Marks.{marked}
 use Rattle.laws.proofs.Tests.{test, tests}
+use Rattle.std.specs.declared.option.Option.{Option}
 use Rattle.table.specs.declared.number.Equation.{Equation}
 use Rattle.pairing.specs.Pairing.{Rel}
 use Rattle.pairing.specs.Holders.{holder}
 use Rattle.pairing.specs.Looking.{FreeIn, NextIn}
 
-module _ (n : ℕ) (edge : Rel) (f : ℕ) (h : List Equation) where
+module _ (n : ℕ) (edge : Rel) (f : ℕ) (h : List (Option Equation)) where
   pub free_hit : (u x : ℕ) → x ≡ u + 1 → u < n → edge f (x - 1) ≡ true → holder h u ≡ 0 → FreeIn n edge f h x
   free_hit u x e b t z =
       let p : x - 1 ≡ u = omega arith in
@@ -23,10 +24,10 @@ module _ (n : ℕ) (edge : Rel) (f : ℕ) (h : List Equation) where
   free_none u b all = record { hit = λ ne. absurd (ne refl); none = λ q v l. all v (omega arith) }
 
 -- the unknowns of f from a place on and below u have holders that were asked
-pub record Passed (edge : Rel) (f from : ℕ) (h : List Equation) (a : List Bool) (u : ℕ) : Type 0 where
+pub record Passed (edge : Rel) (f from : ℕ) (h : List (Option Equation)) (a : List Bool) (u : ℕ) : Type 0 where
   pub below : (v : ℕ) → from ≤ v → v < u → edge f v ≡ true → marked a (holder h v - 1) ≡ true
 
-module _ (n : ℕ) (edge : Rel) (f from : ℕ) (h : List Equation) (a : List Bool) where
+module _ (n : ℕ) (edge : Rel) (f from : ℕ) (h : List (Option Equation)) (a : List Bool) where
   pub passed_none : (u : ℕ) → u ≤ from → Passed edge f from h a u
   passed_none u b = record { below = λ v l k. absurd (omega arith) }
 

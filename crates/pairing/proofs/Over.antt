@@ -14,6 +14,7 @@ use Rattle.laws.specs.Marks.{marked}
 use Rattle.laws.proofs.Tests.{test, given, not_true, same_test}
 use Rattle.laws.proofs.Search.{any_here, any_where}
 use Rattle.laws.proofs.Sum.{sum_same}
+use Rattle.std.specs.declared.option.Option.{Option}
 use Rattle.table.specs.declared.number.Equation.{Equation}
 use Rattle.pairing.specs.Pairing.{Rel, turn, Pairing, size}
 use Rattle.pairing.specs.Holders.{holder, held, Reach, start, step}
@@ -49,7 +50,7 @@ module _ {m n : ℕ} {edge edge' M : Rel} {X : ℕ → Bool} (same : (e u : ℕ)
   }
 
 -- an unknown is held exactly if it has a holder
-held_any : {m n : ℕ} {edge : Rel} (h : List Equation) → Pairing m n edge (held h) → (u : ℕ) → any m (λ e. held h e u) ≡ not (eqb (holder h u) 0)
+held_any : {m n : ℕ} {edge : Rel} (h : List (Option Equation)) → Pairing m n edge (held h) → (u : ℕ) → any m (λ e. held h e u) ≡ not (eqb (holder h u) 0)
 held_any {m} h ok u = test (eqb (holder h u) 0)
     (λ z. rw z (not_true (λ t. given (any_where {n = m} (λ e. held h e u) t) (λ (e, b, w). absurd (nobody e (eqb-true (holder h u) 0 z) w)))))
     (λ z. rw z (let w = by (eqb-false (holder h u) 0 z) in any_here (λ e. held h e u) (holder h u - 1) (ok.row (holder h u - 1) u w) w))
@@ -61,11 +62,11 @@ held_any {m} h ok u = test (eqb (holder h u) 0)
     by ne = eq-eqb (holder h u) (suc (holder h u - 1)) (omega arith)
 
 -- the rank is the number of unknowns that are held
-pub held_size : {m n : ℕ} {edge : Rel} (h : List Equation) → Pairing m n edge (held h) → size m n (held h) ≡ count n (λ u. not (eqb (holder h u) 0))
+pub held_size : {m n : ℕ} {edge : Rel} (h : List (Option Equation)) → Pairing m n edge (held h) → size m n (held h) ≡ count n (λ u. not (eqb (holder h u) 0))
 held_size {m} {n} h ok =
     sym (size_turned ok) ∙ sum_same n (λ u. bit (any m (λ e. held h e u))) (λ u. bit (not (eqb (holder h u) 0))) (λ u b. ap bit (held_any h ok u))
 
-pub left_is : {m n k : ℕ} {edge N : Rel} (h : List Equation) {a b : List Bool} → Certificate m n edge (held h) (marked a) → Certificate n m (turn edge) N (marked b)
+pub left_is : {m n k : ℕ} {edge N : Rel} (h : List (Option Equation)) {a b : List Bool} → Certificate m n edge (held h) (marked a) → Certificate n m (turn edge) N (marked b)
     → k ≡ count n (λ u. not (eqb (holder h u) 0)) → LeftIs m n edge k a b
 left_is h c d q = record {
   ranked = record { pairs = held h; largest = largest c; counts = held_size h c.ok ∙ sym q };

@@ -11,12 +11,13 @@ use borrow.Author.Tests.{eqb-true}
 use Rattle.laws.specs.Marks.{marked}
 use Rattle.laws.proofs.Tests.{test, tests, either, given, clash, not_true}
 use Rattle.table.specs.Model.{limit}
+use Rattle.std.specs.declared.option.Option.{Option}
 use Rattle.table.specs.declared.number.Equation.{Equation}
 use Rattle.pairing.specs.Pairing.{Rel, Pairing, LeftOver}
 use Rattle.pairing.specs.Holders.{holder, held, HoldsSome, Reach, start, step, Found, Nothing, Asking}
 use Rattle.pairing.specs.Certificate.{Certificate}
 
-pub record Pass (m n : ℕ) (edge : Rel) (h : List Equation) (a : List Bool) (i : ℕ) : Type 0 where
+pub record Pass (m n : ℕ) (edge : Rel) (h : List (Option Equation)) (a : List Bool) (i : ℕ) : Type 0 where
   pub ok : Pairing m n edge (held h)
   pub tried : (e : ℕ) → HoldsSome h e → e < i
   pub within : (e : ℕ) → marked a e ≡ true → e < i
@@ -25,7 +26,7 @@ pub record Pass (m n : ℕ) (edge : Rel) (h : List Equation) (a : List Bool) (i 
   pub reached : (e : ℕ) → marked a e ≡ true → (f : ℕ) × (marked a f ≡ true) × LeftOver (held h) f × Reach edge (held h) f e
 
 -- nobody holds anything, nobody was asked
-pub pass_start : {m n : ℕ} {edge : Rel} (h : List Equation) (a : List Bool) → ((u : ℕ) → holder h u ≡ 0) → ((e : ℕ) → marked a e ≡ false) → Pass m n edge h a 0
+pub pass_start : {m n : ℕ} {edge : Rel} (h : List (Option Equation)) (a : List Bool) → ((u : ℕ) → holder h u ≡ 0) → ((e : ℕ) → marked a e ≡ false) → Pass m n edge h a 0
 pass_start h a none nobody = record {
   ok = record {
     row = λ e u t. absurd (unheld e u t);
@@ -44,7 +45,7 @@ pass_start h a none nobody = record {
     unheld : (e u : ℕ) → held h e u ≡ true → ⊥
     unheld e u t = let z = none u in let y = eqb-true (holder h u) (suc e) t in omega arith
 
-module _ {m n : ℕ} {edge : Rel} {h : List Equation} {a : List Bool} {i : ℕ} (p : Pass m n edge h a i) where
+module _ {m n : ℕ} {edge : Rel} {h : List (Option Equation)} {a : List Bool} {i : ℕ} (p : Pass m n edge h a i) where
   -- the next equation may search
   pub pass_asks : m ≤ limit → n ≤ limit → i < m → Asking m n edge i a h
   pass_asks lm ln l = record {
@@ -63,7 +64,7 @@ module _ {m n : ℕ} {edge : Rel} {h : List Equation} {a : List Bool} {i : ℕ} 
       given (p.inn _ u (asked_on x r) (p.ok.col e u t) d) (λ (g, y, w). rw (p.ok.one_e e g u t w) y)
 
   -- it found: what was asked stays as it was
-  module _ {k : List Equation} (r : Found m n edge i a h k) where
+  module _ {k : List (Option Equation)} (r : Found m n edge i a h k) where
     still : {f e : ℕ} → marked a f ≡ true → Reach edge (held h) f e → Reach edge (held k) f e
     still x start = start
     still x (step {e = e} u w d t) = step u (still x w) d (r.untouched e u (asked_on x (step u w d t)) t)
@@ -103,5 +104,5 @@ module _ {m n : ℕ} {edge : Rel} {h : List Equation} {a : List Bool} {i : ℕ} 
       near e (step u w d t) = let z = p.tried e (u, t) in omega arith
 
 -- all have searched
-pub pass_end : {m n : ℕ} {edge : Rel} {h : List Equation} {a : List Bool} → Pass m n edge h a m → Certificate m n edge (held h) (marked a)
+pub pass_end : {m n : ℕ} {edge : Rel} {h : List (Option Equation)} {a : List Bool} → Pass m n edge h a m → Certificate m n edge (held h) (marked a)
 pass_end p = record { ok = p.ok; within = p.within; out = p.out; inn = p.inn; reached = p.reached }

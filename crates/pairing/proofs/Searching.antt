@@ -14,14 +14,17 @@ use Rattle.laws.specs.Marks.{marked, falses}
 use Rattle.laws.proofs.Tests.{test, tests, either, given, clash}
 use Rattle.laws.proofs.Marks.{mark_here, mark_keeps, mark_only, falses_fall}
 use Rattle.table.specs.Model.{limit, Numbered}
+use Rattle.std.specs.declared.option.Option.{Option}
+use Rattle.std.specs.declared.option.Option.TheVariants.{None}
+use Rattle.table.specs.Number.{or_zero, equation_number}
 use Rattle.table.specs.declared.number.Equation.{Equation}
 use Rattle.pairing.specs.Pairing.{Rel}
 use Rattle.pairing.specs.Holders.{holder, held, Reach, start, step, Found, Nothing, Asking, Searched}
 use Rattle.pairing.specs.Looking.{FreeIn, AllHeld, NextIn}
 use Rattle.pairing.proofs.Give.{Given, given_pairing}
 
--- an unknown stored as held by equation f, whose number is x
-pub giving : (h : List Equation) (f u : ℕ) (x : Equation) → u < length h → x.0 ≡ suc f → Given (held h) (held (set h u x)) f u
+-- an unknown stored as held by x, which is equation f
+pub giving : (h : List (Option Equation)) (f u : ℕ) (x : Option Equation) → u < length h → or_zero equation_number x ≡ suc f → Given (held h) (held (set h u x)) f u
 giving h f u x b n = record {
   here = eq-eqb (holder (set h u x) u) (suc f) (same ∙ n);
   cases = λ e v t. test (eqb v u)
@@ -30,22 +33,22 @@ giving h f u x b n = record {
   other = λ e v ne t. rw (other v ne) t;
 }
   where
-    same : holder (set h u x) u ≡ x.0
-    same = ap (λ (y : Equation). y.0) (get_or-set_same h u x (record { 0 = 0 }) b)
+    same : holder (set h u x) u ≡ or_zero equation_number x
+    same = ap (or_zero equation_number) (get_or-set_same h u x None b)
 
     other : (v : ℕ) → (v ≡ u → ⊥) → holder (set h u x) v ≡ holder h v
-    other v ne = ap (λ (y : Equation). y.0) (get_or-set_other h u v x (record { 0 = 0 }) ne)
+    other v ne = ap (or_zero equation_number) (get_or-set_other h u v x None ne)
 
     who : (e v : ℕ) → v ≡ u → held (set h u x) e v ≡ true → e ≡ f
     who e v q t = let z = eqb-true (holder (set h u x) v) (suc e) t in let y = rw q at z in omega (arith, same, n)
 
 -- giving it back
-pub restored : (h : List Equation) (u : ℕ) (x : Equation) → set (set h u x) u (get_or h u (record { 0 = 0 })) ≡ h
-restored h u x = set-set h u x (get_or h u (record { 0 = 0 })) ∙ set-get_or h u (record { 0 = 0 })
+pub restored : (h : List (Option Equation)) (u : ℕ) (x : Option Equation) → set (set h u x) u (get_or h u None) ≡ h
+restored h u x = set-set h u x (get_or h u None) ∙ set-get_or h u None
 
-module _ {m n : ℕ} {edge : Rel} {f : ℕ} {a : List Bool} {h : List Equation} where
+module _ {m n : ℕ} {edge : Rel} {f : ℕ} {a : List Bool} {h : List (Option Equation)} where
   -- the asker takes an unknown that nobody holds
-  pub takes : {k : List Equation} {u : ℕ} → Asking m n edge f a h → u < n → edge f u ≡ true → holder h u ≡ 0 → Given (held h) (held k) f u → Found m n edge f a h k
+  pub takes : {k : List (Option Equation)} {u : ℕ} → Asking m n edge f a h → u < n → edge f u ≡ true → holder h u ≡ 0 → Given (held h) (held k) f u → Found m n edge f a h k
   takes {k} {u} s un ed z g = record {
     ok = given_pairing s.ok s.free s.asker un ed g;
     gained = (u, g.here);
@@ -58,7 +61,7 @@ module _ {m n : ℕ} {edge : Rel} {f : ℕ} {a : List Bool} {h : List Equation} 
       unheld e v t q = let y = eqb-true (holder h v) (suc e) t in let w = rw q at y in omega arith
 
   -- the asker has u, and its former holder g may search
-  pub asks : {b : List Bool} {k : List Equation} {g u : ℕ} → Asking m n edge f a h → edge f u ≡ true → held h g u ≡ true → marked b g ≡ false
+  pub asks : {b : List Bool} {k : List (Option Equation)} {g u : ℕ} → Asking m n edge f a h → edge f u ≡ true → held h g u ≡ true → marked b g ≡ false
       → Given (held h) (held k) f u → Asking m n edge g b k
   asks {b} {k} {g} {u} s ed hg nb gv = record {
     equations = s.equations;
@@ -70,7 +73,7 @@ module _ {m n : ℕ} {edge : Rel} {f : ℕ} {a : List Bool} {h : List Equation} 
   }
 
   -- the former holder found another: so did the asker
-  pub moves : {b : List Bool} {k k' : List Equation} {g u : ℕ} → Asking m n edge f a h → held h g u ≡ true → marked b g ≡ false
+  pub moves : {b : List Bool} {k k' : List (Option Equation)} {g u : ℕ} → Asking m n edge f a h → held h g u ≡ true → marked b g ≡ false
       → marked b f ≡ true × ((e : ℕ) → marked a e ≡ true → marked b e ≡ true) → Given (held h) (held k) f u → Found m n edge g b k k' → Found m n edge f a h k' × (held k' f u ≡ true)
   moves {b} {k} {k'} {g} {u} s hg nb (bf, more) gv r = (
     record {
@@ -91,7 +94,7 @@ module _ {m n : ℕ} {edge : Rel} {f : ℕ} {a : List Bool} {h : List Equation} 
       has = r.untouched f u bf gv.here
 
 -- every unknown of the asker has a holder, where none was free
-pub all_held : {n : ℕ} {edge : Rel} {f : ℕ} {a : List Bool} {h : List Equation} → Asking limit n edge f a h → {u : ℕ} → u ≡ 0 → FreeIn n edge f h u → AllHeld n edge f h
+pub all_held : {n : ℕ} {edge : Rel} {f : ℕ} {a : List Bool} {h : List (Option Equation)} → Asking limit n edge f a h → {u : ℕ} → u ≡ 0 → FreeIn n edge f h u → AllHeld n edge f h
 all_held {n} {edge} {f} {a} {h} s z none v b t =
     let row = s.ok.row (holder h v - 1) v (eq-eqb (holder h v) (suc (holder h v - 1)) (omega (arith, positive))) in
     record { low = positive; high = omega (arith, positive) }
@@ -100,25 +103,25 @@ all_held {n} {edge} {f} {a} {h} s z none v b t =
     positive = let ne = none.none z v b t in omega arith
 
 -- who holds an unknown that has a holder
-pub held_by : (h : List Equation) (v : ℕ) → Numbered (holder h v) → held h (holder h v - 1) v ≡ true
+pub held_by : (h : List (Option Equation)) (v : ℕ) → Numbered (holder h v) → held h (holder h v - 1) v ≡ true
 held_by h v n = eq-eqb (holder h v) (suc (holder h v - 1)) (omega arith)
 
 -- the second pass, at the unknown of number u: those asked so far beyond the ones asked at its start are reached, and their unknowns are held by those asked
-pub record Turn (n : ℕ) (edge : Rel) (f : ℕ) (h : List Equation) (a b : List Bool) (u : ℕ) : Type 0 where
+pub record Turn (n : ℕ) (edge : Rel) (f : ℕ) (h : List (Option Equation)) (a b : List Bool) (u : ℕ) : Type 0 where
   pub more : (e : ℕ) → marked a e ≡ true → marked b e ≡ true
   pub reached : (e : ℕ) → marked b e ≡ true → (marked a e ≡ true) ⊎ Reach edge (held h) f e
   pub closed : (e v : ℕ) → marked b e ≡ true → (marked a e ≡ true → ⊥) → v < n → edge e v ≡ true → (g : ℕ) × (marked b g ≡ true) × (held h g v ≡ true)
   pub next : NextIn n edge f 0 h b u
 
 -- the unknown at place u is the asker's, and its holder was not asked yet
-pub record Wanted (n : ℕ) (edge : Rel) (f : ℕ) (h : List Equation) (b : List Bool) (u : ℕ) : Type 0 where
+pub record Wanted (n : ℕ) (edge : Rel) (f : ℕ) (h : List (Option Equation)) (b : List Bool) (u : ℕ) : Type 0 where
   pub below : u < n
   pub occurs : edge f u ≡ true
   pub number : Numbered (holder h u)
   pub by : held h (holder h u - 1) u ≡ true
   pub fresh : marked b (holder h u - 1) ≡ false
 
-pub wanted : {n : ℕ} {edge : Rel} {f : ℕ} {h : List Equation} {b : List Bool} {w : ℕ} → AllHeld n edge f h → NextIn n edge f 0 h b w → (w ≡ 0 → ⊥)
+pub wanted : {n : ℕ} {edge : Rel} {f : ℕ} {h : List (Option Equation)} {b : List Bool} {w : ℕ} → AllHeld n edge f h → NextIn n edge f 0 h b w → (w ≡ 0 → ⊥)
     → (u : ℕ) → u ≡ w - 1 → Wanted n edge f h b u
 wanted {h = h} all x ne u q =
     let t = rw (← q) at (x.hit ne) in
@@ -131,12 +134,12 @@ reach_back {u = u} ed hg gv start = step u start ed hg
 reach_back ed hg gv (step {e = e} v r t w) =
     either (gv.cases e v w) (λ (p, q). rw q start) (λ (p, q). step v (reach_back ed hg gv r) t q)
 
-module _ {n : ℕ} {edge : Rel} {f : ℕ} {h : List Equation} {a : List Bool} where
+module _ {n : ℕ} {edge : Rel} {f : ℕ} {h : List (Option Equation)} {a : List Bool} where
   pub turn_start : {u : ℕ} → NextIn n edge f 0 h a u → Turn n edge f h a a u
   turn_start x = record { more = λ e t. t; reached = λ e t. inl t; closed = λ e v t ne. absurd (ne t); next = x }
 
   -- the former holder found nothing and has u back; the next unknown is looked for behind u
-  pub turn_next : {b b' : List Bool} {k : List Equation} {g u w w' : ℕ} → w ≡ suc u → Turn n edge f h a b w → edge f u ≡ true → held h g u ≡ true
+  pub turn_next : {b b' : List Bool} {k : List (Option Equation)} {g u w w' : ℕ} → w ≡ suc u → Turn n edge f h a b w → edge f u ≡ true → held h g u ≡ true
       → Given (held h) (held k) f u → Nothing n edge g b b' k → NextIn n edge f (suc u) h b' w' → Turn n edge f h a b' w'
   turn_next {b} {b'} {k} {g} {u} {w} {w'} wu t ed hg gv r x = record {
     more = λ e m. r.more e (t.more e m);
@@ -164,7 +167,7 @@ module _ {n : ℕ} {edge : Rel} {f : ℕ} {h : List Equation} {a : List Bool} wh
           (λ q'. behind (omega (arith, tests))))
 
 -- the second pass came to its end: the search found nothing
-pub ends : {n : ℕ} {edge : Rel} {f : ℕ} {h : List Equation} {a b : List Bool} {w : ℕ} → f < length a → w ≡ 0 → AllHeld n edge f h
+pub ends : {n : ℕ} {edge : Rel} {f : ℕ} {h : List (Option Equation)} {a b : List Bool} {w : ℕ} → f < length a → w ≡ 0 → AllHeld n edge f h
     → Turn n edge f h (set a f true) b w → Nothing n edge f a b h
 ends {n} {edge} {f} {h} {a} {b} l z held_All t = record {
   self = t.more f (mark_here a f l);
@@ -177,18 +180,18 @@ ends {n} {edge} {f} {h} {a} {b} l z held_All t = record {
 }
 
 -- the asker, and whoever was asked before, is among those asked
-pub turn_asked : {n : ℕ} {edge : Rel} {f : ℕ} {h : List Equation} (a : List Bool) {b : List Bool} {w : ℕ} → f < length a → Turn n edge f h (set a f true) b w
+pub turn_asked : {n : ℕ} {edge : Rel} {f : ℕ} {h : List (Option Equation)} (a : List Bool) {b : List Bool} {w : ℕ} → f < length a → Turn n edge f h (set a f true) b w
     → (marked b f ≡ true) × ((e : ℕ) → marked a e ≡ true → marked b e ≡ true)
 turn_asked {f = f} a l t = (t.more f (mark_here a f l), λ e m. t.more e (mark_keeps a f e m))
 
 -- fewer are left to ask than before the search
-pub fewer : {n : ℕ} {edge : Rel} {f : ℕ} {h : List Equation} (a : List Bool) {b : List Bool} {w : ℕ} → length a ≡ limit → length b ≡ limit → f < limit → marked a f ≡ false
+pub fewer : {n : ℕ} {edge : Rel} {f : ℕ} {h : List (Option Equation)} (a : List Bool) {b : List Bool} {w : ℕ} → length a ≡ limit → length b ≡ limit → f < limit → marked a f ≡ false
     → Turn n edge f h (set a f true) b w → falses b < falses a
 fewer {f = f} a {b = b} la lb l fresh t =
     given (turn_asked a (rw la l) t) (λ (self, more). falses_fall a b (la ∙ sym lb) more f fresh self)
 
 -- what a search hands back, by whether the asker got an unknown
-module _ {m n : ℕ} {edge : Rel} {f : ℕ} {a a' : List Bool} {h h' : List Equation} {got : ℕ} where
+module _ {m n : ℕ} {edge : Rel} {f : ℕ} {a a' : List Bool} {h h' : List (Option Equation)} {got : ℕ} where
   pub has_found : (got ≡ 0 → ⊥) → Found m n edge f a h h' × (held h' f (got - 1) ≡ true) → Searched m n edge f a h got h' a'
   has_found ne r = record { found = λ _. r; nothing = λ z. absurd (ne z) }
 
@@ -196,7 +199,7 @@ module _ {m n : ℕ} {edge : Rel} {f : ℕ} {a a' : List Bool} {h h' : List Equa
   has_nothing z q r = record { found = λ ne. absurd (ne z); nothing = λ _. (q, r) }
 
 -- what is asked of fewer equations is asked of as many as there may be
-pub widen : {m n : ℕ} {edge : Rel} {f : ℕ} {a : List Bool} {h : List Equation} → Asking m n edge f a h → Asking limit n edge f a h
+pub widen : {m n : ℕ} {edge : Rel} {f : ℕ} {a : List Bool} {h : List (Option Equation)} → Asking m n edge f a h → Asking limit n edge f a h
 widen s = record {
   equations = omega arith;
   unknowns = s.unknowns;

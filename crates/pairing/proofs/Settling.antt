@@ -10,6 +10,9 @@ use lib.Seq.{get_or-set_same, get_or-set_other}
 use borrow.Author.Tests.{eqb-true, eqb-false}
 use Rattle.laws.proofs.Tests.{test, tests, given}
 use Rattle.table.specs.Model.{limit}
+use Rattle.std.specs.declared.option.Option.{Option}
+use Rattle.std.specs.declared.option.Option.TheVariants.{None}
+use Rattle.table.specs.Number.{or_zero, unknown_number}
 use Rattle.table.specs.declared.number.Equation.{Equation}
 use Rattle.table.specs.declared.number.Unknown.{Unknown}
 use Rattle.pairing.specs.Pairing.{Rel, Full}
@@ -19,18 +22,18 @@ use Rattle.pairing.specs.Choosing.{HeldBy, Keeps, Tried, Settled}
 use Rattle.pairing.proofs.Choice.{full_chosen, full_partners, partners_of, lowest}
 use Rattle.pairing.proofs.Trying.{owns}
 
-pub settle_start : {n : ℕ} {edge : Rel} {h : List Equation} → Full n n edge (held h) → Settled n edge h 0
+pub settle_start : {n : ℕ} {edge : Rel} {h : List (Option Equation)} → Full n n edge (held h) → Settled n edge h 0
 settle_start full = record { full = full; low = λ q e l. absurd (omega arith) }
 
 -- no choice that keeps what those before e hold gives e an unknown before u
-abbrev pub NoneBelow : ℕ → Rel → List Equation → ℕ → ℕ → Type 0
+abbrev pub NoneBelow : ℕ → Rel → List (Option Equation) → ℕ → ℕ → Type 0
 NoneBelow n edge h e u = (q : ℕ → ℕ) → Keeps n edge h e q → u ≤ q e
 
-pub none_next : {n : ℕ} {edge : Rel} {h k : List Equation} {e u : ℕ} → NoneBelow n edge h e u → Tried n edge e u h false k → NoneBelow n edge h e (u + 1)
+pub none_next : {n : ℕ} {edge : Rel} {h k : List (Option Equation)} {e u : ℕ} → NoneBelow n edge h e u → Tried n edge e u h false k → NoneBelow n edge h e (u + 1)
 none_next none t q keep = let a = none q keep in let b = t.no refl q keep in omega arith
 
 -- e has u, and nothing lower can be had
-pub settle_hit : {n : ℕ} {edge : Rel} {h k : List Equation} {e u : ℕ} → e < n → Settled n edge h e → Tried n edge e u h true k → NoneBelow n edge h e u → Settled n edge k (suc e)
+pub settle_hit : {n : ℕ} {edge : Rel} {h k : List (Option Equation)} {e u : ℕ} → e < n → Settled n edge h e → Tried n edge e u h true k → NoneBelow n edge h e u → Settled n edge k (suc e)
 settle_hit {n} {edge} {h} {k} {e} {u} l s t none = record {
   full = yes.0;
   low = λ q i b keep v x. test (eqb i e)
@@ -54,7 +57,7 @@ settle_hit {n} {edge} {h} {k} {e} {u} l s t none = record {
     before q i b keep p = record { ok = keep.ok; agrees = λ j c. back j (q j) c (keep.agrees j (omega arith)) }
 
 -- some unknown can be had: the one that it holds
-pub settle_some : {n : ℕ} {edge : Rel} {h : List Equation} {e u : ℕ} → e < n → n ≤ u → Settled n edge h e → NoneBelow n edge h e u → ⊥
+pub settle_some : {n : ℕ} {edge : Rel} {h : List (Option Equation)} {e u : ℕ} → e < n → n ≤ u → Settled n edge h e → NoneBelow n edge h e u → ⊥
 settle_some {n} {edge} {h} {e} l b s none =
     let p = full_partners s.full in
     let a = none (λ i. lowest n (held h i)) (record { ok = p; agrees = λ i c. full_chosen s.full i (omega arith) }) in
@@ -62,12 +65,12 @@ settle_some {n} {edge} {h} {e} l b s none =
     omega arith
 
 -- the partners of the first e equations, read off
-pub record TakenOff (n : ℕ) (h : List Equation) (l : List Unknown) (e : ℕ) : Type 0 where
+pub record TakenOff (n : ℕ) (h : List (Option Equation)) (l : List (Option Unknown)) (e : ℕ) : Type 0 where
   pub whole : length l ≡ limit
   pub read : (i : ℕ) → i < e → (1 ≤ partner_of l i) × (held h i (partner_of l i - 1) ≡ true)
   pub beyond : (i : ℕ) → e ≤ i → partner_of l i ≡ 0
 
-pub read_next : {n : ℕ} {edge : Rel} {h : List Equation} {l : List Unknown} {e : ℕ} (x : Unknown) → n ≤ limit → e < n → Full n n edge (held h) → HeldBy n h e x.0
+pub read_next : {n : ℕ} {edge : Rel} {h : List (Option Equation)} {l : List (Option Unknown)} {e : ℕ} (x : Option Unknown) → n ≤ limit → e < n → Full n n edge (held h) → HeldBy n h e (or_zero unknown_number x)
     → TakenOff n h l e → TakenOff n h (set l e x) (e + 1)
 read_next {n} {edge} {h} {l} {e} x ln b full y r = record {
   whole = length-set l e x ∙ r.whole;
@@ -77,16 +80,16 @@ read_next {n} {edge} {h} {l} {e} x ln b full y r = record {
   beyond = λ i c. there i (λ p. absurd (omega arith)) ∙ r.beyond i (omega arith);
 }
   where
-    here : partner_of (set l e x) e ≡ x.0
-    here = ap (λ (y : Unknown). y.0) (get_or-set_same l e x (record { 0 = 0 }) (within r.whole))
+    here : partner_of (set l e x) e ≡ or_zero unknown_number x
+    here = ap (or_zero unknown_number) (get_or-set_same l e x None (within r.whole))
       where
         within : length l ≡ limit → e < length l
         within q = omega arith
 
     there : (i : ℕ) → (i ≡ e → ⊥) → partner_of (set l e x) i ≡ partner_of l i
-    there i ne = ap (λ (y : Unknown). y.0) (get_or-set_other l e i x (record { 0 = 0 }) ne)
+    there i ne = ap (or_zero unknown_number) (get_or-set_other l e i x None ne)
 
-pub first_is : {n : ℕ} {edge : Rel} {h : List Equation} {l : List Unknown} → Settled n edge h n → TakenOff n h l n → FirstIs n edge l
+pub first_is : {n : ℕ} {edge : Rel} {h : List (Option Equation)} {l : List (Option Unknown)} → Settled n edge h n → TakenOff n h l n → FirstIs n edge l
 first_is {n} {edge} {h} {l} s r = record {
   first = record {
     ok = partners_of s.full.ok (λ e b. (r.read e b).1);

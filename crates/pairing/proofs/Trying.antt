@@ -15,6 +15,11 @@ use Rattle.laws.specs.Tab.{tab, upto}
 use Rattle.laws.proofs.Tests.{test, tests, given, clash, true≢false, not_true}
 use Rattle.laws.proofs.Tab.{get_or_tab, get_or_past, tab_ext, replicate_tab, fill_start, fill_step}
 use Rattle.table.specs.Model.{limit}
+use Rattle.std.specs.Option.{MatchOption}
+use Rattle.std.specs.Bool.{then_some}
+use Rattle.std.specs.declared.option.Option.{Option}
+use Rattle.std.specs.declared.option.Option.TheVariants.{None}
+use Rattle.table.specs.Number.{or_zero, equation_number}
 use Rattle.table.specs.declared.number.Equation.{Equation}
 use Rattle.pairing.specs.Pairing.{Rel, Full}
 use Rattle.pairing.specs.Holders.{holder, held, Asking, Searched, Found}
@@ -47,26 +52,26 @@ pub marks_step : (k : ℕ) → k < limit → set (marks k) k true ≡ marks (k +
 marks_step k b = rw (as_filled k, as_filled (k + 1)) (fill_step limit k (λ i. true) (λ i. false) b)
 
 -- looking for what e holds
-pub held_hit : {n : ℕ} {h : List Equation} {e : ℕ} (u x : ℕ) → x ≡ u + 1 → u < n → holder h u ≡ suc e → HeldBy n h e x
+pub held_hit : {n : ℕ} {h : List (Option Equation)} {e : ℕ} (u x : ℕ) → x ≡ u + 1 → u < n → holder h u ≡ suc e → HeldBy n h e x
 held_hit {h = h} {e = e} u x q b t =
     let p : x - 1 ≡ u = omega arith in
     record { hit = λ ne. (rw p b, rw p (eq-eqb (holder h u) (suc e) t)); none = λ z. absurd (omega arith) }
 
-pub held_none : {n : ℕ} {h : List Equation} {e : ℕ} (u : ℕ) → n ≤ u → ((v : ℕ) → v < u → held h e v ≡ true → ⊥) → HeldBy n h e 0
+pub held_none : {n : ℕ} {h : List (Option Equation)} {e : ℕ} (u : ℕ) → n ≤ u → ((v : ℕ) → v < u → held h e v ≡ true → ⊥) → HeldBy n h e 0
 held_none u b all = record { hit = λ ne. absurd (ne refl); none = λ z v l. all v (omega arith) }
 
 -- what e holds is the unknown found
-pub owns : {n : ℕ} {edge : Rel} {h : List Equation} {e w : ℕ} → Full n n edge (held h) → e < n → HeldBy n h e w → (w ≡ 0 → ⊥) × ((w - 1 < n) × (held h e (w - 1) ≡ true))
+pub owns : {n : ℕ} {edge : Rel} {h : List (Option Equation)} {e w : ℕ} → Full n n edge (held h) → e < n → HeldBy n h e w → (w ≡ 0 → ⊥) × ((w - 1 < n) × (held h e (w - 1) ≡ true))
 owns {e = e} {w = w} full l x =
     let ne : w ≡ 0 → ⊥ = λ z. given (full.every e l) (λ (v, t). x.none z v (full.ok.col e v t) t) in
     (ne, x.hit ne)
 
 -- k is h without e's unknown w
-record Released (h k : List Equation) (w : ℕ) : Type 0 where
+record Released (h k : List (Option Equation)) (w : ℕ) : Type 0 where
   pub cases : (i v : ℕ) → held k i v ≡ true → (v ≡ w → ⊥) × (held h i v ≡ true)
   pub other : (i v : ℕ) → (v ≡ w → ⊥) → held h i v ≡ true → held k i v ≡ true
 
-releasing : (h : List Equation) (w : ℕ) (x : Equation) → w < length h → x.0 ≡ 0 → Released h (set h w x) w
+releasing : (h : List (Option Equation)) (w : ℕ) (x : Option Equation) → w < length h → or_zero equation_number x ≡ 0 → Released h (set h w x) w
 releasing h w x b z = record {
   cases = λ i v t. test (eqb v w)
       (λ q. absurd (gone i v (eqb-true v w q) t))
@@ -75,16 +80,16 @@ releasing h w x b z = record {
 }
   where
     stays : (v : ℕ) → (v ≡ w → ⊥) → holder (set h w x) v ≡ holder h v
-    stays v ne = ap (λ (y : Equation). y.0) (get_or-set_other h w v x (record { 0 = 0 }) ne)
+    stays v ne = ap (or_zero equation_number) (get_or-set_other h w v x None ne)
 
     gone : (i v : ℕ) → v ≡ w → held (set h w x) i v ≡ true → ⊥
     gone i v q t =
         let y = eqb-true (holder (set h w x) v) (suc i) t in
         let o = rw q at y in
-        let n = ap (λ (y : Equation). y.0) (get_or-set_same h w x (record { 0 = 0 }) b) in
+        let n = ap (or_zero equation_number) (get_or-set_same h w x None b) in
         omega arith
 
-module _ {n : ℕ} {edge : Rel} {h k : List Equation} {e w : ℕ} (full : Full n n edge (held h)) (l : e < n) (ln : n ≤ limit) (own : held h e w ≡ true) (r : Released h k w) where
+module _ {n : ℕ} {edge : Rel} {h k : List (Option Equation)} {e w : ℕ} (full : Full n n edge (held h)) (l : e < n) (ln : n ≤ limit) (own : held h e w ≡ true) (r : Released h k w) where
   -- having given up its unknown, e may search as if those before it were asked
   may_ask : Asking n n edge e (marks e) k
   may_ask = record {
@@ -107,7 +112,7 @@ module _ {n : ℕ} {edge : Rel} {h k : List Equation} {e w : ℕ} (full : Full n
   others i v ne t = r.other i v (λ q. ne (full.ok.one_e i e w (rw q at t) own)) t
 
   -- the holder g of u was asked to move on
-  module _ {g u : ℕ} (k' : List Equation) (ed : edge e u ≡ true) (hg : held h g u ≡ true) (later : e < g) (gv : Given (held k) (held k') e u) where
+  module _ {g u : ℕ} (k' : List (Option Equation)) (ed : edge e u ≡ true) (hg : held h g u ≡ true) (later : e < g) (gv : Given (held k) (held k') e u) where
     holds : held k g u ≡ true
     holds = others g u (λ q. absurd (omega arith)) hg
 
@@ -117,11 +122,11 @@ module _ {n : ℕ} {edge : Rel} {h k : List Equation} {e w : ℕ} (full : Full n
     holder_asks : Asking n n edge g (marks (suc e)) k'
     holder_asks = asks may_ask ed holds fresh gv
 
-    moved : {k'' : List Equation} → Found n n edge g (marks (suc e)) k' k'' → Found n n edge e (marks e) k k'' × (held k'' e u ≡ true)
+    moved : {k'' : List (Option Equation)} → Found n n edge g (marks (suc e)) k' k'' → Found n n edge e (marks e) k k'' × (held k'' e u ≡ true)
     moved f = moves may_ask holds fresh
         (are_marks (suc e) e (omega arith) (omega arith), λ i t. let z = marks_are e i t in are_marks (suc e) i (omega arith) (omega arith)) gv f
 
-    tried_search : {got : ℕ} {k'' : List Equation} {b : List Bool} → Searched n n edge g (marks (suc e)) k' got k'' b → Tried n edge e u h (not (eqb got 0)) k''
+    tried_search : {got : ℕ} {k'' : List (Option Equation)} {b : List Bool} → Searched n n edge g (marks (suc e)) k' got k'' b → Tried n edge e u h (not (eqb got 0)) k''
     tried_search {got} s = record {
       yes = λ t. given (moved (s.found (λ z. clash t (rw (eq-eqb got 0 z)))).0) (λ (f, has). (
         record {
@@ -146,31 +151,31 @@ module _ {n : ℕ} {edge : Rel} {h k : List Equation} {e w : ℕ} (full : Full n
         given_away : (q : ℕ → ℕ) → Keeps n edge h e q → (i : ℕ) → i < e → q i ≡ u → ⊥
         given_away q keep i b o = let z = full.ok.one_e i g u (rw o at (keep.agrees i b)) hg in omega arith
 
--- what is known when the holder of u is asked to move on: e, whose number is x, holds w, and an equation after it holds u
-pub record Asked (n : ℕ) (edge : Rel) (h : List Equation) (e u w : ℕ) (x : Equation) : Type 0 where
+-- what is known when the holder of u is asked to move on: e, which is x, holds w, and an equation after it holds u
+pub record Asked (n : ℕ) (edge : Rel) (h : List (Option Equation)) (e u w : ℕ) (x : Option Equation) : Type 0 where
   pub full : Full n n edge (held h)
   pub limits : n ≤ limit
   pub equation : e < n
   pub unknown : u < n
   pub all : length h ≡ limit
-  pub number : x.0 ≡ suc e
+  pub number : or_zero equation_number x ≡ suc e
   pub occurs : edge e u ≡ true
   pub own : held h e w ≡ true
   pub later : suc e < holder h u
 
-module _ {n : ℕ} {edge : Rel} {h : List Equation} {e u w : ℕ} {x : Equation} (a : Asked n edge h e u w x) where
+module _ {n : ℕ} {edge : Rel} {h : List (Option Equation)} {e u w : ℕ} {x : Option Equation} (a : Asked n edge h e u w x) where
   -- w given up, u taken
-  abbrev pub swapped : List Equation
-  swapped = set (set h w (record { 0 = 0 })) u x
+  abbrev pub swapped : List (Option Equation)
+  swapped = set (set h w None) u x
 
-  released : Released h (set h w (record { 0 = 0 })) w
-  released = let l = a.full.ok.col e w a.own in let b = a.limits in releasing h w (record { 0 = 0 }) (rw a.all (omega arith)) refl
+  released : Released h (set h w None) w
+  released = let l = a.full.ok.col e w a.own in let b = a.limits in releasing h w None (rw a.all (omega arith)) refl
 
-  taken : Given (held (set h w (record { 0 = 0 }))) (held swapped) e u
-  taken = giving (set h w (record { 0 = 0 })) e u x (within a.all a.unknown a.limits) a.number
+  taken : Given (held (set h w None)) (held swapped) e u
+  taken = giving (set h w None) e u x (within a.all a.unknown a.limits) a.number
     where
-      within : length h ≡ limit → u < n → n ≤ limit → u < length (set h w (record { 0 = 0 }))
-      within q b l = rw (length-set h w (record { 0 = 0 })) (omega arith)
+      within : length h ≡ limit → u < n → n ≤ limit → u < length (set h w None)
+      within q b l = rw (length-set h w None) (omega arith)
 
   by : held h (holder h u - 1) u ≡ true
   by = let l = a.later in eq-eqb (holder h u) (suc (holder h u - 1)) (omega arith)
@@ -181,15 +186,15 @@ module _ {n : ℕ} {edge : Rel} {h : List Equation} {e u w : ℕ} {x : Equation}
   pub swapped_asks : Asking n n edge (holder h u - 1) (marks (suc e)) swapped
   swapped_asks = holder_asks a.full a.equation a.limits a.own released swapped a.occurs by after taken
 
-  pub swapped_tried : {got : ℕ} {k : List Equation} {b : List Bool} → Searched n n edge (holder h u - 1) (marks (suc e)) swapped got k b → Tried n edge e u h (not (eqb got 0)) k
+  pub swapped_tried : {got : ℕ} {k : List (Option Equation)} {b : List Bool} → Searched n n edge (holder h u - 1) (marks (suc e)) swapped got k b → Tried n edge e u h (not (eqb got 0)) k
   swapped_tried = tried_search a.full a.equation a.limits a.own released swapped a.occurs by after taken
 
 -- the unknown does not occur in e
-pub tried_absent : {n : ℕ} {edge : Rel} {e u : ℕ} {h : List Equation} → e < n → edge e u ≡ false → Tried n edge e u h false h
+pub tried_absent : {n : ℕ} {edge : Rel} {e u : ℕ} {h : List (Option Equation)} → e < n → edge e u ≡ false → Tried n edge e u h false h
 tried_absent l f = record { yes = λ t. absurd (true≢false (sym t)); no = λ t q keep same. clash (rw same at (keep.ok.fits _ l)) f }
 
 -- e, or an equation before it, holds the unknown
-pub tried_held : {n : ℕ} {edge : Rel} {e u : ℕ} {h : List Equation} {x : ℕ} → Full n n edge (held h) → e < n → u < n → x ≡ suc e → holder h u ≤ x
+pub tried_held : {n : ℕ} {edge : Rel} {e u : ℕ} {h : List (Option Equation)} {x : ℕ} → Full n n edge (held h) → e < n → u < n → x ≡ suc e → holder h u ≤ x
     → Tried n edge e u h (eqb (holder h u) x) h
 tried_held {n} {edge} {e} {u} {h} {x} full l b number le = rw number (record {
   yes = λ t. (full, t, λ i v c x. x);
@@ -203,3 +208,9 @@ tried_held {n} {edge} {e} {u} {h} {x} full l b number le = rw number (record {
   where
     earlier : (i : ℕ) → holder h u ≡ suc i → (holder h u ≡ suc e → ⊥) → i < e
     earlier i y ne = omega arith
+
+-- what was tried, as it is handed out: the pairing where e can have u, and none where it cannot
+pub tried_is : {n : ℕ} {edge : Rel} {e u : ℕ} {h k : List (Option Equation)} (done : Bool) → Tried n edge e u h done k
+    → MatchOption (then_some done k) (Tried n edge e u h false h) (λ after. Tried n edge e u h true after)
+tried_is true t = t
+tried_is false t = record { yes = λ z. absurd (true≢false (sym z)); no = t.no }

@@ -3,19 +3,20 @@ use Rattle.std.specs.Prelude.{◌≡◌, Bool, true, false, List, ◌⊎◌, ℕ
 use Rattle.laws.specs.Marks.{marked}
 use Rattle.table.specs.Model.{limit}
 use Rattle.table.specs.Number.{equation_at}
+use Rattle.std.specs.declared.option.Option.{Option}
 use Rattle.table.specs.declared.number.Equation.{Equation}
 use Rattle.pairing.specs.Pairing.{Rel, Pairing, LeftOver}
 
 -- the number of the equation that holds unknown u, or 0
-abbrev pub holder : List Equation → ℕ → ℕ
+abbrev pub holder : List (Option Equation) → ℕ → ℕ
 holder h u = equation_at h u
 
 -- equation e holds unknown u
-abbrev pub held : List Equation → Rel
+abbrev pub held : List (Option Equation) → Rel
 held h e u = eqb (holder h u) (suc e)
 
 -- equation e holds something
-abbrev pub HoldsSome : List Equation → ℕ → Type 0
+abbrev pub HoldsSome : List (Option Equation) → ℕ → Type 0
 HoldsSome h e = (u : ℕ) × (held h e u ≡ true)
 
 -- e is asked when f searches: f itself, or the holder of an unknown that occurs in one that is asked
@@ -24,7 +25,7 @@ pub data Reach (edge M : Rel) (f : ℕ) : ℕ → Type 0 where
   step : {a e : ℕ} (u : ℕ) → Reach edge M f a → edge a u ≡ true → M e u ≡ true → Reach edge M f e
 
 -- a search that found: a pairing again, in which f and all who held something hold something, and what those asked before held they hold still
-pub record Found (m n : ℕ) (edge : Rel) (f : ℕ) (asked : List Bool) (before after : List Equation) : Type 0 where
+pub record Found (m n : ℕ) (edge : Rel) (f : ℕ) (asked : List Bool) (before after : List (Option Equation)) : Type 0 where
   pub ok : Pairing m n edge (held after)
   pub gained : HoldsSome after f
   pub kept : (e : ℕ) → HoldsSome before e → HoldsSome after e
@@ -32,7 +33,7 @@ pub record Found (m n : ℕ) (edge : Rel) (f : ℕ) (asked : List Bool) (before 
   pub untouched : (e u : ℕ) → marked asked e ≡ true → held before e u ≡ true → held after e u ≡ true
 
 -- a search that found nothing: f was asked; whoever was newly asked is reached from f, and all its unknowns are held by equations that were asked
-pub record Nothing (n : ℕ) (edge : Rel) (f : ℕ) (before after : List Bool) (holders : List Equation) : Type 0 where
+pub record Nothing (n : ℕ) (edge : Rel) (f : ℕ) (before after : List Bool) (holders : List (Option Equation)) : Type 0 where
   pub self : marked after f ≡ true
   pub more : (e : ℕ) → marked before e ≡ true → marked after e ≡ true
   pub reached : (e : ℕ) → marked after e ≡ true → (marked before e ≡ true) ⊎ Reach edge (held holders) f e
@@ -40,7 +41,7 @@ pub record Nothing (n : ℕ) (edge : Rel) (f : ℕ) (before after : List Bool) (
       → (g : ℕ) × (marked after g ≡ true) × (held holders g u ≡ true)
 
 -- what a search needs: within the limits, a pairing, and an asker that holds nothing and was not asked yet
-pub record Asking (m n : ℕ) (edge : Rel) (f : ℕ) (asked : List Bool) (holders : List Equation) : Type 0 where
+pub record Asking (m n : ℕ) (edge : Rel) (f : ℕ) (asked : List Bool) (holders : List (Option Equation)) : Type 0 where
   pub equations : m ≤ limit
   pub unknowns : n ≤ limit
   pub asker : f < m
@@ -49,7 +50,7 @@ pub record Asking (m n : ℕ) (edge : Rel) (f : ℕ) (asked : List Bool) (holder
   pub ok : Pairing m n edge (held holders)
 
 -- what a search hands back: the number of the unknown that the asker got, or 0; the holders; who was asked
-pub record Searched (m n : ℕ) (edge : Rel) (f : ℕ) (asked : List Bool) (holders : List Equation) (got : ℕ) (holders' : List Equation) (asked' : List Bool)
+pub record Searched (m n : ℕ) (edge : Rel) (f : ℕ) (asked : List Bool) (holders : List (Option Equation)) (got : ℕ) (holders' : List (Option Equation)) (asked' : List Bool)
     : Type 0 where
   pub found : (got ≡ 0 → ⊥) → Found m n edge f asked holders holders' × (held holders' f (got - 1) ≡ true)
   pub nothing : got ≡ 0 → (holders' ≡ holders) × Nothing n edge f asked asked' holders

@@ -9,76 +9,69 @@ ghost use Rattle.pairing.specs.Certificate.{Certificate};
 ghost use Rattle.pairing.specs.Handed.{LeftIs};
 
 use crate::search::search;
-use table::LIMIT;
-use table::number::{Equation, Unknown};
+use crate::{Holders, Marks};
+use table::number::{Counted, Equation};
 use table::rows::transposed;
+use table::{LIMIT, Rows};
 
 #[derive(Clone, Copy)]
 struct Pairs {
-    holders: [Equation; LIMIT],
+    holders: Holders,
     // The equations that some largest pairing leaves over.
-    over: [bool; LIMIT],
+    over: Marks,
 }
 
 #[derive(Clone, Copy)]
 pub struct Left {
     pub rank: u8,
-    pub surplus: [bool; LIMIT],
-    pub unfixed: [bool; LIMIT],
+    pub surplus: Marks,
+    pub unfixed: Marks,
 }
 
 // A largest pairing. Each equation searches once; those that a failed search asked stay asked, for no later search can use them.
-fn largest(table: &[[u8; LIMIT]; LIMIT], equations: usize, unknowns: usize) -> Pairs
+fn largest(table: &Rows, equations: usize, unknowns: usize) -> Pairs
     requires { (equations ≤ limit) × (unknowns ≤ limit) }
     ensures { Certificate equations unknowns (occurs_at table.now) (held result.holders) (marked result.over) }
 {
-    let mut holders = [Equation(0); LIMIT];
+    let mut holders = [None; LIMIT];
     let mut over = [false; LIMIT];
-    let mut e = 0;
-    while e < equations {
+    for e in 0..equations {
         let answer = search(table, unknowns, Equation::at(e), holders, over);
-        if answer.got.0 != 0 {
+        if answer.got.is_some() {
             holders = answer.holders;
         } else {
             over = answer.asked;
         }
-        e += 1;
     }
     Pairs { holders, over }
 }
 
 // How many unknowns are held.
 #[tactic(auto, using(laws::proofs::Sum::count_yes, laws::proofs::Sum::count_no))]
-fn held_count(unknowns: usize, holders: [Equation; LIMIT]) -> u8
+fn held_count(unknowns: usize, holders: &Holders) -> u8
     requires { unknowns ≤ limit }
-    ensures { result ≡ count unknowns (λ u. not (eqb (holder holders u) 0)) }
+    ensures { result ≡ count unknowns (λ u. not (eqb (holder holders.now u) 0)) }
 {
     let mut held = 0;
-    let mut u = 0;
-    while u < unknowns {
-        let holder = holders[u];
-        if holder.0 != 0 {
+    for u in 0..unknowns {
+        if holders[u].is_some() {
             held += 1;
         }
-        u += 1;
     }
     held
 }
 
 // The rank, and who may be left over. Unknowns are judged as the equations of the transposed table.
-pub fn left_over(table: &[[u8; LIMIT]; LIMIT], equations: usize, unknowns: usize) -> Left
+pub fn left_over(table: &Rows, equations: usize, unknowns: usize) -> Left
     requires { (equations ≤ limit) × (unknowns ≤ limit) }
     ensures { LeftIs equations unknowns (occurs_at table.now) result.rank result.surplus result.unfixed }
 {
     let pairs = largest(table, equations, unknowns);
-    let turned = transposed(table);
-    let other = largest(&turned, unknowns, equations);
-    let holders = pairs.holders;
-    let rank = held_count(unknowns, holders);
+    let other = largest(&transposed(table), unknowns, equations);
     let surplus = pairs.over;
     let unfixed = other.over;
     Left {
-        rank,
+        rank: held_count(unknowns, &pairs.holders),
         surplus,
         unfixed,
     }

@@ -4,3 +4,12 @@
 pub mod first;
 pub mod left;
 pub mod search;
+
+use table::LIMIT;
+use table::number::Equation;
+
+// Who holds each unknown.
+pub type Holders = [Option<Equation>; LIMIT];
+
+// Some of the equations, or of the unknowns.
+pub type Marks = [bool; LIMIT];

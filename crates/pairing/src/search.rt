@@ -1,138 +1,113 @@
 // The search that enlarges a pairing (002, MATCH-EQUATION): an equation takes a free unknown, or asks the holder of a
 // taken one to move on, and that one asks in turn. Each equation is asked at most once, so the asking ends.
 ghost use Rattle.std.specs.Prelude.{◌≡◌, ℕ, ◌-◌, ◌≤◌, set};
-ghost use Rattle.table.specs.Model.{limit, Numbered, occurs_at};
+ghost use Rattle.table.specs.Model.{limit, occurs_at};
+ghost use Rattle.table.specs.Number.{equation_number, unknown_number, or_zero};
 ghost use Rattle.pairing.specs.Holders.{Asking, Searched};
 ghost use Rattle.pairing.specs.Looking.{AllHeld, FreeIn, NextIn};
 
-use table::LIMIT;
-use table::number::{Equation, Unknown};
+use crate::{Holders, Marks};
+use table::Rows;
+use table::number::{Counted, Equation, Unknown};
 use table::rows::occurs;
 
 #[derive(Clone, Copy)]
 pub struct Answer {
-    // The unknown that the asker got, or 0.
-    pub got: Unknown,
-    // Who holds each unknown afterwards: an equation's number, or 0.
-    pub holders: [Equation; LIMIT],
+    // The unknown that the asker got.
+    pub got: Option<Unknown>,
+    // Who holds each unknown afterwards.
+    pub holders: Holders,
     // Who was asked, those asked before included.
-    pub asked: [bool; LIMIT],
+    pub asked: Marks,
 }
 
-// The lowest unknown of the asker that nobody holds, or 0.
+// The lowest unknown of the asker that nobody holds.
 fn free_unknown(
-    table: &[[u8; LIMIT]; LIMIT],
+    table: &Rows,
     unknowns: usize,
     asker: Equation,
-    holders: [Equation; LIMIT],
-) -> Unknown
-    requires { Numbered asker.0 × (unknowns ≤ limit) }
-    ensures { FreeIn unknowns (occurs_at table.now) (asker.0 - 1) holders result.0 }
+    holders: &Holders,
+) -> Option<Unknown>
+    requires { (equation_number asker ≤ limit) × (unknowns ≤ limit) }
+    ensures { FreeIn unknowns (occurs_at table.now) (equation_number asker - 1) holders.now (or_zero unknown_number result) }
 {
-    let mut u = 0;
-    while u < unknowns {
+    for u in 0..unknowns {
         let unknown = Unknown::at(u);
-        if occurs(table, asker, unknown) {
-            let holder = holders[u];
-            if holder.0 == 0 {
-                return unknown;
-            }
+        if occurs(table, asker, unknown) && holders[u].is_none() {
+            return Some(unknown);
         }
-        u += 1;
     }
-    Unknown(0)
+    None
 }
 
-// The lowest unknown of the asker, from a place on, whose holder was not asked yet, or 0.
+// The lowest unknown of the asker, from a place on, whose holder was not asked yet.
 fn next_held(
-    table: &[[u8; LIMIT]; LIMIT],
+    table: &Rows,
     unknowns: usize,
     asker: Equation,
     from: usize,
-    holders: [Equation; LIMIT],
-    asked: [bool; LIMIT],
-) -> Unknown
-    requires { Numbered asker.0 × (unknowns ≤ limit) × AllHeld unknowns (occurs_at table.now) (asker.0 - 1) holders }
-    ensures { NextIn unknowns (occurs_at table.now) (asker.0 - 1) from holders asked result.0 }
+    holders: &Holders,
+    asked: &Marks,
+) -> Option<Unknown>
+    requires { (equation_number asker ≤ limit) × (unknowns ≤ limit) × AllHeld unknowns (occurs_at table.now) (equation_number asker - 1) holders.now }
+    ensures { NextIn unknowns (occurs_at table.now) (equation_number asker - 1) from holders.now asked.now (or_zero unknown_number result) }
 {
-    let mut u = from;
-    while u < unknowns {
+    for u in from..unknowns {
         let unknown = Unknown::at(u);
-        if occurs(table, asker, unknown) {
-            let holder = holders[u].place();
-            if !asked[holder] {
-                return unknown;
-            }
+        if occurs(table, asker, unknown) && !asked[holders[u].unwrap().place()] {
+            return Some(unknown);
         }
-        u += 1;
     }
-    Unknown(0)
-}
-
-// The asker takes an unknown that nobody holds.
-fn taken(free: Unknown, asker: Equation, holders: [Equation; LIMIT], asked: [bool; LIMIT]) -> Answer
-    requires { Numbered free.0 }
-    ensures { (result.got.0 ≡ free.0) × (result.holders ≡ set holders (free.0 - 1) asker) × (result.asked ≡ asked) }
-{
-    let mut holders = holders;
-    let place = free.place();
-    holders[place] = asker;
-    Answer {
-        got: free,
-        holders,
-        asked,
-    }
-}
-
-// The asker has what the former holder gave up when it moved on.
-fn handed_over(got: Unknown, moved: Answer) -> Answer
-    ensures { (result.got.0 ≡ got.0) × (result.holders ≡ moved.holders) × (result.asked ≡ moved.asked) }
-{
-    let holders = moved.holders;
-    let asked = moved.asked;
-    Answer {
-        got,
-        holders,
-        asked,
-    }
+    None
 }
 
 // One search. It calls itself on the present holder of an unknown that it needs; what falls is the number of those not yet asked.
 pub fn search(
-    table: &[[u8; LIMIT]; LIMIT],
+    table: &Rows,
     unknowns: usize,
     asker: Equation,
-    holders: [Equation; LIMIT],
-    asked: [bool; LIMIT],
+    holders: Holders,
+    asked: Marks,
 ) -> Answer
-    requires { (1 ≤ asker.0) × Asking limit unknowns (occurs_at table.now) (asker.0 - 1) asked holders }
-    ensures { (m : ℕ) → Asking m unknowns (occurs_at table.now) (asker.0 - 1) asked holders
-        → Searched m unknowns (occurs_at table.now) (asker.0 - 1) asked holders result.got.0 result.holders result.asked }
+    requires { Asking limit unknowns (occurs_at table.now) (equation_number asker - 1) asked holders }
+    ensures { (m : ℕ) → Asking m unknowns (occurs_at table.now) (equation_number asker - 1) asked holders
+        → Searched m unknowns (occurs_at table.now) (equation_number asker - 1) asked holders
+        (or_zero unknown_number result.got) result.holders result.asked }
 {
     let mut holders = holders;
     let mut asked = asked;
-    let at = asker.place();
-    asked[at] = true;
-    let free = free_unknown(table, unknowns, asker, holders);
-    if free.0 != 0 {
-        return taken(free, asker, holders, asked);
+    asked[asker.place()] = true;
+    let free = free_unknown(table, unknowns, asker, &holders);
+    if let Some(unknown) = free {
+        holders[unknown.place()] = Some(asker);
+        return Answer {
+            got: free,
+            holders,
+            asked,
+        };
     }
-    let mut wanted = next_held(table, unknowns, asker, 0, holders, asked);
-    while wanted.0 != 0 {
-        let place = wanted.place();
-        let holder = holders[place];
+    let mut wanted = next_held(table, unknowns, asker, 0, &holders, &asked);
+    while let Some(unknown) = wanted {
+        let place = unknown.place();
+        let holder = holders[place].unwrap();
         // The asker has it while its holder looks for another; if there is none, the holder has it back.
-        holders[place] = asker;
+        holders[place] = Some(asker);
         let moved = search(table, unknowns, holder, holders, asked);
-        if moved.got.0 != 0 {
-            return handed_over(wanted, moved);
+        if moved.got.is_some() {
+            let holders = moved.holders;
+            let asked = moved.asked;
+            return Answer {
+                got: wanted,
+                holders,
+                asked,
+            };
         }
-        holders[place] = holder;
+        holders[place] = Some(holder);
         asked = moved.asked;
-        wanted = next_held(table, unknowns, asker, place + 1, holders, asked);
+        wanted = next_held(table, unknowns, asker, place + 1, &holders, &asked);
     }
     Answer {
-        got: wanted,
+        got: None,
         holders,
         asked,
     }

@@ -1,34 +1,34 @@
--- `strip::listed` meets its contract: after i turns the stretch lists the marked places below i, by number.
-use mathlib.Core.Path.{sym, ◌∙◌}
+-- `strip::listed` meets its contract: the stretch lists what was yielded so far, by number.
+use mathlib.Core.Path.{◌≡◌, ◌∙◌}
+use Prim.Native.Nat.{◌<◌}
 use native.Mathlib.Omega.{arith}
+use lib.ListN.{length}
+use Rattle.std.proofs.Common.{rules, tests}
+use Rattle.std.proofs.lemmas.Iterator.{YieldsList-from_range}
+use Rattle.std.proofs.lemmas.Iterator.Consumers.{YieldsList-at, YieldsList-turn, YieldsList-end, YieldsList-from_filter, YieldsList-from_enumerate}
 use Rattle.laws.specs.Marks.{marked}
-use Rattle.analysis.proofs.Strips.{listing_long, listing_within, listing_start, listing_skip, listing_add, listing_end}
+use Rattle.table.specs.Model.{limit}
+use Rattle.analysis.proofs.Strips.{next_place, listed_add, listed_all}
 use Rattle.analysis.proofs.strip.listed.Goals as goal
-use Rattle.analysis.proofs.strip.listed.Goals.{then-marks-i, else-marks-i}
 
-pub unused-requires : goal.unused-requires
-unused-requires c = c.requires.0
-
-pub loop-i-init : goal.loop-i-init
-loop-i-init c = (omega arith, listing_start (marked c.args.marks) c.unused.ensures)
+-- each number comes with the place behind those that came before
+next : (c : goal.In-Some) → (c.in-Some.at ≡ length c.loop-at.yielded) × (length c.loop-at.yielded < limit)
+next c = next_place c.args.n (marked c.args.marks) c.loop-at.yielded (c.in-Some.at, c.in-Some.i) c.requires.1
+    (YieldsList-turn (YieldsList-at c.into_iter-at-iterator.ensures.into_iter_gives (YieldsList-from_enumerate (YieldsList-at c.enumerate-at-items.ensures.source
+    (YieldsList-from_filter _ (marked c.args.marks) (YieldsList-from_range 0 c.args.n c.args.n (search rules) (omega arith)) c.filter.ensures.closure
+    (λ x b q k. search (rules, tests)))) (search rules)))
+    c.loop-at.yielded _ c.loop-at.yielded_by _ _ (c.in-Some.at, c.in-Some.i) c.in-Some.is c.next.ensures.steps)
 
 pub bounds-stretch-at : goal.bounds-stretch-at
-bounds-stretch-at c = omega (arith, listing_long c.loop-i.invariant.1, listing_within c.loop-i.invariant.1)
+bounds-stretch-at c = let (a, b) = next c in omega (arith, c.loop-at.auto.stretch, c.unused.auto.stretch, c.requires.0)
 
-pub overflow_add-at : goal.overflow_add-at
-overflow_add-at c = omega (arith, listing_within c.loop-i.invariant.1)
-
-pub loop-i-preserved : goal.loop-i-preserved
-loop-i-preserved c = (
-  omega arith,
-  elim c.if-marks-i.branch [
-    | then-marks-i w ↦ rw (w.stretch-is, w.at-is) (listing_add c.loop-i.invariant.1 w.if-marks-i.true (omega arith))
-    | else-marks-i w ↦ rw (w.stretch-is, w.at-is) (listing_skip c.loop-i.invariant.1 w.if-marks-i.false)
-  ],
-)
-
-pub shape_of-stretch : goal.shape_of-stretch
-shape_of-stretch c = listing_long c.loop-i.invariant.1 ∙ sym c.requires.0
+pub loop-at-preserved : goal.loop-at-preserved
+loop-at-preserved c = rw c.loop-at.invariant (listed_add c.loop-at.yielded (c.in-Some.at, c.in-Some.i) (next c))
 
 pub returns : goal.returns
-returns c = listing_end c.args.n c.loop-i.invariant.1 (omega arith)
+returns c =
+    let all = YieldsList-end (YieldsList-at c.into_iter-at-iterator.ensures.into_iter_gives (YieldsList-from_enumerate (YieldsList-at c.enumerate-at-items.ensures.source
+    (YieldsList-from_filter _ (marked c.args.marks) (YieldsList-from_range 0 c.args.n c.args.n (search rules) (omega arith)) c.filter.ensures.closure
+    (λ x b q k. search (rules, tests)))) (search rules)))
+    c.loop-at.yielded _ c.loop-at.yielded_by _ _ c.in-None.is c.next.ensures.steps in
+    c.loop-at.invariant ∙ listed_all c.args.n (marked c.args.marks) c.loop-at.yielded all.0

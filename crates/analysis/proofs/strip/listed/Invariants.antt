@@ -1,11 +1,9 @@
--- `strip::listed` meets its contract: after i turns the stretch lists the marked places below i, by number.
-use Prim.Native.Nat.{◌-◌, ◌≤◌}
-use Rattle.laws.specs.Marks.{marked}
-use Rattle.analysis.proofs.Strips.{Listing}
+-- `strip::listed` meets its contract: the stretch lists what was yielded so far, by number.
+use mathlib.Core.Path.{◌≡◌}
+use mathlib.Core.List.{map}
+use Prim.Native.Nat.{suc}
+use Rattle.analysis.specs.Outcome.{strip}
 use Rattle.analysis.proofs.strip.listed.Given as goal
 
-abbrev pub invariant-loop-i : goal.invariant-loop-i
-invariant-loop-i l = (l.i ≤ l.n) × Listing (marked l.marks) l.stretch l.at l.i
-
-abbrev pub decreases-loop-i : goal.decreases-loop-i
-decreases-loop-i l = l.n - l.i
+abbrev pub invariant-loop-at : goal.invariant-loop-at
+invariant-loop-at l = l.stretch ≡ strip (map (λ p. suc p.1) l.yielded)

@@ -1,37 +1,22 @@
 -- `number::numbers` gives the lowest ready block the next number until no block is ready; then all stand.
-use native.Mathlib.Omega.{arith}
-use borrow.Author.Rules.{rules}
+use mathlib.Core.Path.{refl, ◌∙◌}
 use Rattle.table.specs.Model.{limit}
 use Rattle.laws.proofs.Tab.{copies_at}
-use Rattle.blocks.proofs.Numbering.{counting_start, counting_falls, counting_step, counting_end}
+use Rattle.blocks.proofs.Numbering.{counting_start, counting_falls, counting_step}
 use Rattle.blocks.proofs.number.numbers.Goals as goal
 
 pub loop-e-init : goal.loop-e-init
-loop-e-init c = counting_start (λ f. copies_at limit 0 f) c.lowest-e.ensures
-
-pub overflow_add-blocks : goal.overflow_add-blocks
-overflow_add-blocks c =
-    let room = c.loop-e.invariant.room in
-    let few = c.requires.0 in
-    search rules
-
-pub renumber-number-requires : goal.renumber-number-requires
-renumber-number-requires c = let few = c.requires.0 in omega arith
-
-pub lowest-e-requires-in-loop-e : goal.lowest-e-requires-in-loop-e
-lowest-e-requires-in-loop-e c = c.requires.0
+loop-e-init c = (refl, refl, counting_start (λ f. copies_at limit 0 f))
 
 pub loop-e-smaller : goal.loop-e-smaller
 loop-e-smaller c =
-    let p = c.requires in
-    counting_falls p.1 p.0 c.loop-e.invariant c.loop-e-test.true
-    c.renumber-number.ensures
+    let i = c.loop-e.invariant in
+    let l = rw (c.in-Some.is, i.0, i.1) at c.lowest.ensures in
+    counting_falls c.requires.1 c.requires.0 i.2 l (rw i.0 at c.renumber-standing.ensures.2)
 
 pub loop-e-preserved : goal.loop-e-preserved
 loop-e-preserved c =
-    let p = c.requires in
-    counting_step p.1 p.0 c.loop-e.invariant c.loop-e-test.true
-    c.renumber-number.ensures c.lowest-e-in-loop-e.ensures
-
-pub returns : goal.returns
-returns c = counting_end c.requires.1 c.loop-e.invariant c.loop-e-test.false
+    let i = c.loop-e.invariant in
+    let r = c.renumber-standing.ensures in
+    let l = rw (c.in-Some.is, i.0, i.1) at c.lowest.ensures in
+    (r.0 ∙ i.0, r.1 ∙ i.1, counting_step c.requires.1 c.requires.0 i.2 l (rw i.0 at r.2))

@@ -1,9 +1,9 @@
--- `reach::row_through` leaves the row as it is, or joins the other.
+-- `reach::row_through` leaves the row as it is where the equation is not reached.
 use mathlib.Core.Path.{◌≡◌}
 use lib.ListN.{length}
 use borrow.Author.Rules.{rules}
 use Rattle.table.specs.Model.{limit}
-use Rattle.blocks.proofs.Tables.{row_left, row_joined}
+use Rattle.blocks.proofs.Tables.{row_left}
 use Rattle.blocks.proofs.reach.row_through.Goals as goal
 
 pub returns-then-row-k-eq0 : goal.returns-then-row-k-eq0
@@ -11,8 +11,3 @@ returns-then-row-k-eq0 c =
     let a = c.args in
     let all : length a.row ≡ limit = search rules in
     row_left a.row a.other a.k all c.if-row-k-eq0.true
-
-pub returns-else-row-k-eq0 : goal.returns-else-row-k-eq0
-returns-else-row-k-eq0 c =
-    let a = c.args in
-    row_joined a.row a.other a.k c.if-row-k-eq0.false c.joined.ensures

@@ -7,8 +7,8 @@ use Rattle.laws.specs.Tab.{number_at}
 use Rattle.counts.specs.Kept.{KeptIn}
 use Rattle.counts.proofs.raise.least.Given as goal
 
-abbrev pub invariant-loop-paired : goal.invariant-loop-paired
-invariant-loop-paired l = (l.paired ≤ l.n) × KeptIn l.n l.table l.paired l.counts l.holders
+abbrev pub invariant-loop-all : goal.invariant-loop-all
+invariant-loop-all l = (l.paired ≤ l.n) × KeptIn l.n l.table l.paired l.counts l.holders
 
-abbrev pub decreases-loop-paired : goal.decreases-loop-paired
-decreases-loop-paired l = sum l.n (high_at l.n l.table l.counts) - sum l.n (number_at l.counts)
+abbrev pub decreases-loop-all : goal.decreases-loop-all
+decreases-loop-all l = sum l.n (high_at l.n l.table l.counts) - sum l.n (number_at l.counts)

@@ -4,31 +4,33 @@ use mathlib.Core.Bool.{false}
 use Prim.Native.Nat.{◌-◌}
 use native.Mathlib.Omega.{arith}
 use lib.ListN.{replicate}
-use borrow.Author.Rules.{rules}
-use Rattle.table.specs.Model.{limit}
+use Rattle.table.specs.Model.{limit, occurs_at}
+use Rattle.table.specs.Number.{equation_number, unknown_number, or_zero}
+use Rattle.table.proofs.Same.{some_unknown, none_unknown}
+use Rattle.pairing.specs.Holders.{Searched}
 use Rattle.pairing.proofs.Searching.{widen}
-use Rattle.counts.proofs.Pairs.{may_search, paired_next, went_all, went_some}
+use Rattle.counts.proofs.Pairs.{may_search, paired_next, went_some}
 use Rattle.counts.proofs.raise.pair_on.Goals as goal
-
-pub loop-f-init : goal.loop-f-init
-loop-f-init c = (c.requires.1, c.requires.2)
+use Rattle.counts.proofs.raise.pair_on.Goals.{After-search-answer}
 
 pub search-answer-requires : goal.search-answer-requires
 search-answer-requires c =
-    let place : c.at.result.0 - 1 ≡ c.loop-f.f = omega arith in
-    (omega arith, rw place (widen (may_search c.loop-f.invariant.1 (search rules) (search rules))))
+    let place : equation_number c.at.result - 1 ≡ c.loop-paired.paired = omega arith in
+    rw place (widen (may_search c.loop-paired.invariant (omega arith) (omega arith)))
 
-pub returns-then-answer-eq0 : goal.returns-then-answer-eq0
-returns-then-answer-eq0 c =
-    let place : c.at.result.0 - 1 ≡ c.loop-f.f = omega arith in
-    let answered = (rw place at c.search-answer.ensures) c.args.n (may_search c.loop-f.invariant.1 (search rules) (search rules)) in
-    went_some c.loop-f.invariant.1 (search rules) (answered.nothing c.if-answer-eq0.true).1
+-- what the search of the equation at this place handed back
+answered : (c : After-search-answer) → Searched c.args.n c.args.n (occurs_at c.args.leading.now) c.loop-paired.paired (replicate limit false) c.loop-paired.holders
+    (or_zero unknown_number c.search-answer.result.got) c.search-answer.result.holders c.search-answer.result.asked
+answered c =
+    let place : equation_number c.at.result - 1 ≡ c.loop-paired.paired = omega arith in
+    (rw place at c.search-answer.ensures) c.args.n (may_search c.loop-paired.invariant (omega arith) (omega arith))
 
-pub loop-f-preserved : goal.loop-f-preserved
-loop-f-preserved c =
-    let place : c.at.result.0 - 1 ≡ c.loop-f.f = omega arith in
-    let answered = (rw place at c.search-answer.ensures) c.args.n (may_search c.loop-f.invariant.1 (search rules) (search rules)) in
-    (omega arith, paired_next c.loop-f.invariant.1 (answered.found c.if-answer-eq0.false).0)
+pub returns-then-is_none : goal.returns-then-is_none
+returns-then-is_none c =
+    let a = answered (goal.at.returns-then-is_none c).After-search-answer in
+    (omega arith, went_some c.loop-paired.invariant (omega arith) (a.nothing (none_unknown c.search-answer.result.got c.if-is_none.ensures)).1)
 
-pub returns : goal.returns
-returns c = went_all c.loop-f.invariant.1 (replicate limit false) (omega arith)
+pub loop-paired-preserved : goal.loop-paired-preserved
+loop-paired-preserved c =
+    let a = answered (goal.at.loop-paired-preserved c).After-search-answer in
+    paired_next c.loop-paired.invariant (a.found (λ z. omega (arith, some_unknown c.search-answer.result.got c.if-is_none.ensures))).0

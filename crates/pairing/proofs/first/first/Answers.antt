@@ -3,26 +3,21 @@ use mathlib.Core.Path.{◌≡◌, refl, ap}
 use Prim.Native.Nat.{◌-◌}
 use native.Mathlib.Omega.{arith}
 use borrow.Author.Rules.{rules}
+use Rattle.std.specs.declared.option.Option.{Option}
+use Rattle.std.specs.declared.option.Option.TheVariants.{None}
 use Rattle.laws.proofs.Tab.{copies_at}
 use Rattle.table.specs.Model.{limit}
+use Rattle.table.specs.Number.{equation_number, unknown_number, or_zero}
 use Rattle.table.specs.declared.number.Unknown.{Unknown}
-use Rattle.pairing.proofs.Settling.{read_next, first_is}
+use Rattle.pairing.proofs.Settling.{read_next}
 use Rattle.pairing.proofs.first.first.Goals as goal
-
-pub all_settled-settled-requires : goal.all_settled-settled-requires
-all_settled-settled-requires c = c.requires
 
 pub loop-e-init : goal.loop-e-init
 loop-e-init c =
-    let none : Unknown = record { 0 = 0 } in
-    (omega arith, record { whole = refl; read = λ i l. absurd (omega arith); beyond = λ i l. ap (λ (x : Unknown). x.0) (copies_at limit none i) })
+    let none : Option Unknown = None in
+    record { whole = refl; read = λ i l. absurd (omega arith); beyond = λ i l. ap (or_zero unknown_number) (copies_at limit none i) }
 
 pub loop-e-preserved : goal.loop-e-preserved
 loop-e-preserved c =
-    let place : c.at.result.0 - 1 ≡ c.loop-e.e = omega arith in
-    (omega arith, read_next c.held_by.result (search rules) (search rules) c.all_settled-settled.ensures.full (rw place at c.held_by.ensures) c.loop-e.invariant.1)
-
-pub returns : goal.returns
-returns c =
-    let all : c.loop-e.e ≡ c.args.n = omega arith in
-    first_is c.all_settled-settled.ensures (rw all at c.loop-e.invariant.1)
+    let place : equation_number c.at.result - 1 ≡ c.loop-e.e = omega arith in
+    read_next c.held_by.result (search rules) (search rules) c.all_settled-settled.ensures.full (rw place at c.held_by.ensures) c.loop-e.invariant

@@ -1,59 +1,84 @@
 -- `first::trial`, by the laws of proofs/Trying: the unknown is absent, or held by an equation up to this one, or its holder is asked to move on.
-use mathlib.Core.Path.{◌≡◌, sym, ap, ◌∙◌}
-use Prim.Native.Nat.{suc, ◌-◌}
+use mathlib.Core.Path.{◌≡◌, refl, sym, ap, ◌∙◌}
+use mathlib.Core.List.{List}
+use Prim.Native.Nat.{ℕ, suc, ◌-◌, ◌<◌, ◌≤◌}
 use native.Mathlib.Omega.{arith}
+use lib.ListN.{get_or, length}
 use borrow.Author.Rules.{rules}
+use borrow.Author.Tests.{eqb-true}
+use Rattle.std.proofs.lemmas.List.{get_or_default}
+use Rattle.std.proofs.lemmas.Map.Keys.{le_from_is_le}
+use Rattle.std.specs.declared.option.Option.{Option}
+use Rattle.std.specs.declared.option.Option.TheVariants.{None, Some}
+use Rattle.laws.proofs.Tests.{given}
 use Rattle.table.specs.Model.{occurs_at}
+use Rattle.table.specs.Number.{equation_number, unknown_number, or_zero}
+use Rattle.table.specs.declared.number.Equation.{Equation}
+use Rattle.table.proofs.Same.{has_equation, has_unknown, told_unknown}
+use Rattle.pairing.specs.Holders.{holder}
+use Rattle.pairing.proofs.Sizes.{full_turned}
 use Rattle.pairing.proofs.Searching.{widen}
-use Rattle.pairing.proofs.Trying.{marks, owns, Asked, swapped_asks, swapped_tried, tried_absent, tried_held}
+use Rattle.pairing.proofs.Trying.{marks, owns, Asked, swapped_asks, swapped_tried, tried_held, tried_is}
 use Rattle.pairing.proofs.first.trial.Goals as goal
 use Rattle.pairing.proofs.first.trial.Goals.{After-up_to}
 
+pub unwrap-holder-requires : goal.unwrap-holder-requires
+unwrap-holder-requires c =
+    let h = c.args.holders.now in
+    let b : c.place.result < length h = search rules in
+    given ((full_turned refl c.requires.3).every (unknown_number c.args.u - 1) (search rules)) (λ (i, x).
+    let y = rw (← c.place.ensures) at (eqb-true (holder h (unknown_number c.args.u - 1)) (suc i) x) in
+    has_equation _ (rw (get_or_default h c.place.result c.index-holders-place.result None b) (omega arith)))
+
+-- the holder that was read is the pairing's
+number : (h : List (Option Equation)) (u p : ℕ) (d : Option Equation) (x : Equation) → p ≡ u → p < length h → get_or h p d ≡ Some x → holder h u ≡ equation_number x
+number h u p d x e b r = rw (← e) (ap (or_zero equation_number) (get_or_default h p None d b ∙ r))
+
+pub returns-then-le : goal.returns-then-le
+returns-then-le c =
+    let positive = c.args.e.0.ok in
+    let n = number c.args.holders.now _ _ _ _ c.place.ensures (search rules) c.unwrap-holder.ensures in
+    let below : equation_number c.unwrap-holder.result ≤ equation_number c.args.e = le_from_is_le _ _ (sym c.le.ensures ∙ c.if-le.true) in
+    let t = tried_held {e = equation_number c.args.e - 1} {u = unknown_number c.args.u - 1} {x = equation_number c.args.e} c.requires.3 (search rules) (search rules) (omega arith) (rw n below) in
+    rw (c.then_some.ensures) (tried_is c.eq.result (rw (c.eq.ensures) (rw n at t)))
+
+pub unwrap-own-requires : goal.unwrap-own-requires
+unwrap-own-requires c = let o = (owns c.requires.3 (search rules) c.held_by.ensures).0 in has_unknown _ (omega arith)
+
 -- the holder of the unknown stands after the equation
-asked : (c : After-up_to) → Asked
-    c.args.n
-    (occurs_at c.args.table.now)
-    c.args.holders
-    (c.args.e.0 - 1)
-    c.place-at.result
-    c.place-own.result
-    c.args.e
+asked : (c : After-up_to) → Asked c.args.n (occurs_at c.args.table.now) c.args.holders.now (equation_number c.args.e - 1) (unknown_number c.args.u - 1) c.place-2.result (Some c.args.e)
 asked c =
+    let positive = c.args.e.0.ok in
+    let n = number c.args.holders.now _ _ _ _ c.place.ensures (search rules) c.unwrap-holder.ensures in
+    let own = (owns c.requires.3 (search rules) c.held_by.ensures).1.1 in
+    let later : equation_number c.args.e < equation_number c.unwrap-holder.result = search rules in
     record {
-      full = c.requires.5;
-      limits = c.requires.4;
+      full = c.requires.3;
+      limits = c.requires.2;
       equation = search rules;
       unknown = search rules;
       all = search rules;
       number = omega arith;
-      occurs = rw c.place-at.ensures (sym c.occurs.ensures ∙ c.if-not-occurs.false);
-      own = rw c.place-own.ensures (owns c.requires.5 (search rules) c.held_by.ensures).1.1;
-      later = omega (arith, c.if-holder-e.false);
+      occurs = sym c.occurs.ensures ∙ c.if-not-occurs.false;
+      own = rw c.place-2.ensures (rw (ap (or_zero unknown_number) c.unwrap-own.ensures) at own);
+      later = rw n (omega arith);
     }
 
-marks-up : (c : After-up_to) → c.up_to.result ≡ marks (suc (c.args.e.0 - 1))
+marks-up : (c : After-up_to) → c.up_to.result ≡ marks (suc (equation_number c.args.e - 1))
 marks-up c =
-    let number : c.args.e.0 ≡ suc (c.args.e.0 - 1) = omega arith in
+    let positive = c.args.e.0.ok in
+    let number : equation_number c.args.e ≡ suc (equation_number c.args.e - 1) = omega arith in
     c.up_to.ensures ∙ ap marks number
 
-pub returns-then-not-occurs : goal.returns-then-not-occurs
-returns-then-not-occurs c = tried_absent (search rules) (sym c.occurs.ensures ∙ c.if-not-occurs.true)
-
-pub returns-then-holder-e : goal.returns-then-holder-e
-returns-then-holder-e c =
-    rw (← c.place-at.ensures) (tried_held c.requires.5 (search rules) (search rules) (omega arith) c.if-holder-e.true)
-
-pub place-own-requires : goal.place-own-requires
-place-own-requires c = let o = (owns c.requires.5 (search rules) c.held_by.ensures).0 in omega arith
-
-pub bounds-given-own : goal.bounds-given-own
-bounds-given-own c = let o = (owns c.requires.5 (search rules) c.held_by.ensures).1.0 in omega arith
-
 pub search-answer-requires : goal.search-answer-requires
-search-answer-requires c = let a = asked c in rw (marks-up c) (omega arith, widen (swapped_asks a))
+search-answer-requires c =
+    let p = (goal.at.search-answer-requires c).After-up_to in
+    let n = number c.args.holders.now _ _ _ _ c.place.ensures (search rules) c.unwrap-holder.ensures in
+    rw (marks-up p, c.place-3.ensures) (rw n at (widen (swapped_asks (asked p))))
 
 pub returns : goal.returns
 returns c =
     let p = (goal.at.returns c).After-up_to in
-    let a = asked p in
-    rw (← c.place-at.ensures) (swapped_tried a ((rw (marks-up p) at c.search-answer.ensures) c.args.n (swapped_asks a)))
+    let n = number c.args.holders.now _ _ _ _ c.place.ensures (search rules) c.unwrap-holder.ensures in
+    let s = (rw (marks-up p, c.place-3.ensures) at c.search-answer.ensures) c.args.n (rw n at (swapped_asks (asked p))) in
+    rw (c.then_some-2.ensures) (tried_is c.is_some.result (rw (c.is_some.ensures, ← told_unknown c.search-answer.result.got) (swapped_tried (asked p) {b = c.search-answer.result.asked} (rw n s))))

@@ -1,15 +1,17 @@
--- `first::up_to` marks one equation after the other.
-use mathlib.Core.Path.{◌≡◌}
+-- `first::up_to` marks as many as the equation's number says.
+use Rattle.std.proofs.Common.{rules}
+use mathlib.Core.Path.{◌≡◌, ◌∙◌}
+use mathlib.Core.Bool.{true}
+use Prim.Native.Nat.{ℕ, ◌+◌, ◌-◌}
 use native.Mathlib.Omega.{arith}
-use borrow.Author.Rules.{rules}
-use Rattle.pairing.proofs.Trying.{marks_start, marks_step}
+use Rattle.laws.proofs.Tab.{tab_ext, pick_self}
+use Rattle.table.specs.Model.{limit}
+use Rattle.table.specs.Number.{equation_number}
+use Rattle.table.specs.declared.number.Equation.{Equation}
 use Rattle.pairing.proofs.first.up_to.Goals as goal
 
-pub loop-i-init : goal.loop-i-init
-loop-i-init c = (omega arith, marks_start)
-
-pub loop-i-preserved : goal.loop-i-preserved
-loop-i-preserved c = (omega arith, rw c.loop-i.invariant.1 (marks_step c.loop-i.i (search rules)))
+one-more : (e : Equation) → equation_number e - 1 + 1 ≡ equation_number e
+one-more e = let p = e.0.ok in omega arith
 
 pub returns : goal.returns
-returns c = let all : c.loop-i.i ≡ c.args.e.0 = omega arith in rw all at c.loop-i.invariant.1
+returns c = c.tabulated.ensures (λ (i : ℕ). true) (λ i x h p. search rules) ∙ tab_ext limit _ _ (λ i b. rw (c.place.ensures, one-more c.args.e) (pick_self _))

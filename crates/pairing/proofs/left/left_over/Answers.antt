@@ -19,7 +19,7 @@ turned-occurs t m n lm ln u e bu be = ap (λ (c : ℕ). not (eqb c 0)) (square_a
 pub returns : goal.returns
 returns c =
     let a = c.args in
-    let other = rw c.transposed-turned.ensures at c.largest-other.ensures in
+    let other = rw c.transposed.ensures at c.largest-other.ensures in
     left_is c.largest-pairs.result.holders c.largest-pairs.ensures
     (certificate_carry (turned-occurs a.table.now a.equations a.unknowns (search rules) (search rules)) other)
-    c.held_count-rank.ensures
+    c.held_count.ensures

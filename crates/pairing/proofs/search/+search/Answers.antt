@@ -1,158 +1,125 @@
 -- `search::search`: the first pass finds a free unknown; the second asks the holders in turn. What falls is the number of those not asked.
 -- The steps are the laws of proofs/Searching: takes, asks, moves, turn_start, turn_next, ends.
-use mathlib.Core.Path.{◌≡◌, refl, sym, ◌∙◌}
-use mathlib.Core.Bool.{true}
-use Prim.Native.Nat.{ℕ, ◌-◌, ◌<◌}
+use mathlib.Core.Path.{◌≡◌, refl, sym, ap, subst, ◌∙◌}
+use mathlib.Core.Bool.{true, false}
+use Prim.Native.Nat.{ℕ, suc, ◌-◌, ◌<◌}
 use native.Mathlib.Numerals.{add-one}
 use native.Mathlib.Omega.{arith}
-use lib.ListN.{length, set}
+use lib.ListN.{length, set, get_or}
 use borrow.Author.Rules.{rules}
+use Rattle.std.proofs.lemmas.List.{get_or_default}
+use Rattle.std.specs.declared.option.Option.TheVariants.{None, Some}
 use Rattle.laws.specs.Marks.{marked}
 use Rattle.laws.proofs.Marks.{falses_fall}
 use Rattle.table.specs.Model.{limit, occurs_at}
-use Rattle.pairing.specs.Holders.{holder, held}
+use Rattle.table.specs.Number.{equation_number, unknown_number, or_zero}
+use Rattle.table.specs.declared.number.Equation.{Equation}
+use Rattle.table.proofs.Same.{some_unknown, none_unknown}
+use Rattle.pairing.specs.Holders.{held}
+use Rattle.pairing.specs.Looking.{AllHeld}
 use Rattle.pairing.proofs.Give.{Given}
-use Rattle.pairing.proofs.Searching.{Wanted, wanted, giving, restored, takes, asks, moves, all_held, turn_start, turn_next, ends, fewer, turn_asked, has_found, has_nothing}
+use Rattle.pairing.proofs.Searching.{Wanted, wanted, giving, restored, takes, asks, moves, all_held, turn_next, ends, fewer, turn_asked, has_found, has_nothing}
 use Rattle.pairing.proofs.search.+search.Goals as goal
-use Rattle.pairing.proofs.search.+search.Goals.{Start, Else-free-ne0, In-loop-wanted, After-place-place, Else-moved-ne0, After-loop-wanted, Then-moved-ne0}
+use Rattle.pairing.proofs.search.+search.Goals.{After-unwrap-holder}
 
-wants : (t : ℕ) (c : After-place-place t) → Wanted
-    c.args.unknowns
-    (occurs_at c.args.table.now)
-    (c.args.asker.0 - 1)
-    c.args.holders
-    c.loop-wanted.asked
-    c.place-place.result
+-- a number's place is one less
+one-more : (e : Equation) → equation_number e ≡ suc (equation_number e - 1)
+one-more e = let p = e.0.ok in omega arith
+
+-- the wanted unknown and its holder
+wants : (t : ℕ) (c : After-unwrap-holder t) → Wanted c.args.unknowns (occurs_at c.args.table.now) (equation_number c.args.asker - 1) c.args.holders c.loop-wanted.asked c.place-place.result
 wants t c =
-    wanted (all_held c.requires.1 c.if-free-ne0.false c.free_unknown-free.ensures) c.loop-wanted.invariant.1.next c.loop-wanted-test.true c.place-place.result c.place-place.ensures
+    let number = ap (or_zero unknown_number) c.in-Some-wanted.is in
+    let positive = c.in-Some-wanted.unknown.0.ok in
+    wanted (all_held c.requires (ap (or_zero unknown_number) c.in_default.is) c.free_unknown-free.ensures)
+    c.loop-wanted.invariant.1.next (λ z. omega arith) c.place-place.result (rw number c.place-place.ensures)
 
-asked-at : (t : ℕ) (c : After-place-place t)
-    → (marked c.loop-wanted.asked (c.args.asker.0 - 1) ≡ true)
-    × ((e : ℕ) → marked c.args.asked e ≡ true
-    → marked c.loop-wanted.asked e ≡ true)
-asked-at t c =
-    turn_asked c.args.asked (search rules) (rw c.place-at.ensures at c.loop-wanted.invariant.1)
+here : (t : ℕ) (c : After-unwrap-holder t) → get_or c.args.holders c.place-place.result None ≡ Some c.unwrap-holder.result
+here t c =
+    let w = wants t c in let s = c.requires in
+    let b : c.place-place.result < length c.args.holders = omega (arith, w.below, s.unknowns) in
+    get_or_default c.args.holders c.place-place.result None c.index-holders-place.result b ∙ (rw c.loop-wanted.invariant.0 at c.unwrap-holder.ensures)
+
+by : (t : ℕ) (c : After-unwrap-holder t) → held c.args.holders (equation_number c.unwrap-holder.result - 1) c.place-place.result ≡ true
+by t c = rw (← ap (or_zero equation_number) (here t c)) (wants t c).by
+
+fresh : (t : ℕ) (c : After-unwrap-holder t) → marked c.loop-wanted.asked (equation_number c.unwrap-holder.result - 1) ≡ false
+fresh t c = rw (← ap (or_zero equation_number) (here t c)) (wants t c).fresh
+
+asked-at : (t : ℕ) (c : After-unwrap-holder t) → (marked c.loop-wanted.asked (equation_number c.args.asker - 1) ≡ true)
+    × ((e : ℕ) → marked c.args.asked e ≡ true → marked c.loop-wanted.asked e ≡ true)
+asked-at t c = turn_asked c.args.asked (search rules) (rw c.place.ensures at c.loop-wanted.invariant.1)
 
 -- the wanted unknown, given to the asker
-given-at : (t : ℕ) (c : After-place-place t) → Given
-    (held c.args.holders)
-    (held
-    (set
-    c.args.holders
-    c.place-place.result
-    c.args.asker))
-    (c.args.asker.0 - 1)
-    c.place-place.result
+given-at : (t : ℕ) (c : After-unwrap-holder t) → Given (held c.args.holders) (held (set c.args.holders c.place-place.result (Some c.args.asker)))
+    (equation_number c.args.asker - 1) c.place-place.result
 given-at t c =
-    let w = wants t c in
-    giving c.args.holders (c.args.asker.0 - 1) c.place-place.result c.args.asker (search rules) (omega arith)
+    let w = wants t c in let s = c.requires in
+    let b : c.place-place.result < length c.args.holders = omega (arith, w.below, s.unknowns) in
+    giving c.args.holders (equation_number c.args.asker - 1) c.place-place.result (Some c.args.asker) b (one-more c.args.asker)
 
-pub place-at-requires : goal.place-at-requires
-place-at-requires t c = c.requires.0
+-- and given back
+back : (t : ℕ) (c : After-unwrap-holder t) → set (set c.loop-wanted.holders c.place-place.result (Some c.args.asker)) c.place-place.result (Some c.unwrap-holder.result) ≡ c.args.holders
+back t c = rw (c.loop-wanted.invariant.0, ← here t c) (restored c.args.holders c.place-place.result (Some c.args.asker))
 
-pub bounds-asked-at : goal.bounds-asked-at
-bounds-asked-at t c = let s = c.requires.1 in omega arith
-
-pub free_unknown-free-requires : goal.free_unknown-free-requires
-free_unknown-free-requires t c = let s = c.requires.1 in (record { low = c.requires.0; high = omega arith }, s.unknowns)
-
-pub taken-requires : goal.taken-requires
-taken-requires t c =
-    let s = c.requires.1 in
-    let ne = c.if-free-ne0.true in
-    let f = c.free_unknown-free.ensures.hit ne in
-    record { low = omega arith; high = omega (arith, f.0) }
-
-pub returns-then-free-ne0 : goal.returns-then-free-ne0
-returns-then-free-ne0 t c =
-    let u = c.free_unknown-free.result.0 - 1 in
-    let f = c.free_unknown-free.ensures.hit c.if-free-ne0.true in
-    let b : u < length c.args.holders = omega (arith, f.0, c.requires.1.unknowns) in
-    let g = giving c.args.holders (c.args.asker.0 - 1) u c.args.asker b (omega arith) in
-    rw (c.taken.ensures.0, c.taken.ensures.1) (λ m s. has_found c.if-free-ne0.true (takes s f.0 f.1 f.2 g, g.here))
+pub returns-in-Some : goal.returns-in-Some
+returns-in-Some t c =
+    let u = c.place-in-Some.result in
+    let positive = c.in-Some.unknown.0.ok in
+    let found = c.free_unknown-free.ensures in
+    let number = ap (or_zero unknown_number) c.in-Some.is in
+    let f = (rw number at found).hit (λ z. omega arith) in
+    let b : unknown_number c.in-Some.unknown - 1 < length c.args.holders = omega (arith, f.0, c.requires.unknowns) in
+    let g = giving c.args.holders (equation_number c.args.asker - 1) (unknown_number c.in-Some.unknown - 1) (Some c.args.asker) b (one-more c.args.asker) in
+    λ m s. rw c.place-in-Some.ensures (has_found (λ z. omega arith) (takes s f.0 f.1 f.2 g, g.here))
 
 pub next_held-wanted-requires : goal.next_held-wanted-requires
 next_held-wanted-requires t c =
-    let s = c.requires.1 in (
-      record { low = c.requires.0; high = omega arith },
-      s.unknowns,
-      all_held s c.if-free-ne0.false c.free_unknown-free.ensures,
-    )
-
-pub loop-wanted-init : goal.loop-wanted-init
-loop-wanted-init t c = (refl, turn_start c.next_held-wanted.ensures, search rules)
-
-pub bounds-holders-place : goal.bounds-holders-place
-bounds-holders-place t c =
-    let w = wants t (goal.at.bounds-holders-place t c).After-place-place in
-    let s = c.requires.1 in
-    omega arith
-
-pub bounds-holders-place-in-loop-wanted : goal.bounds-holders-place-in-loop-wanted
-bounds-holders-place-in-loop-wanted t c =
-    let w = wants t (goal.at.bounds-holders-place-in-loop-wanted t c).After-place-place in
-    let s = c.requires.1 in
-    omega arith
+    let s = c.requires in
+    (omega arith, s.unknowns, all_held s (ap (or_zero unknown_number) c.in_default.is) c.free_unknown-free.ensures)
 
 pub search-moved-requires : goal.search-moved-requires
 search-moved-requires t c =
-    let p = (goal.at.search-moved-requires t c).After-place-place in
-    let w = wants t p in
-    let s = c.requires.1 in
-    let f = fewer c.args.asked (search rules) c.loop-wanted.invariant.2 s.asker s.fresh (rw c.place-at.ensures at c.loop-wanted.invariant.1) in
-    rw c.loop-wanted.invariant.0 (
-      omega arith,
-      (
-        w.number.low,
-        asks s w.occurs w.by w.fresh (given-at t p),
-      ),
-    )
+    let p = (goal.at.search-moved-requires t c).After-unwrap-holder in
+    let s = c.requires in
+    let f = fewer c.args.asked (search rules) c.loop-wanted.invariant.2 s.asker s.fresh (rw c.place.ensures at c.loop-wanted.invariant.1) in
+    rw c.loop-wanted.invariant.0 (omega arith, asks s (wants t p).occurs (by t p) (fresh t p) (given-at t p))
 
-pub returns-then-moved-ne0 : goal.returns-then-moved-ne0
-returns-then-moved-ne0 t c =
-    let p = (goal.at.returns-then-moved-ne0 t c).After-place-place in
-    let w = wants t p in
-    rw (c.handed_over.ensures.0, c.handed_over.ensures.1)
-    (λ m s. has_found c.loop-wanted-test.true
+pub returns-then-is_some : goal.returns-then-is_some
+returns-then-is_some t c =
+    let p = (goal.at.returns-then-is_some t c).After-unwrap-holder in
+    let positive = c.in-Some-wanted.unknown.0.ok in
+    λ m s. has_found (λ z. omega arith)
     (rw (← c.place-place.ensures)
-    (moves s w.by w.fresh (asked-at t p) (given-at t p)
-    (((rw c.loop-wanted.invariant.0 at c.search-moved.ensures) m (asks s w.occurs w.by w.fresh (given-at t p))).found c.if-moved-ne0.true).0)))
+    (moves s (by t p) (fresh t p) (asked-at t p) (given-at t p)
+    (((rw c.loop-wanted.invariant.0 at c.search-moved.ensures) m (asks s (wants t p).occurs (by t p) (fresh t p) (given-at t p))).found (λ z. omega (arith, some_unknown c.search-moved.result.got (sym c.is_some.ensures ∙ c.if-is_some.true)))).0))
 
-pub bounds-holders-place-in-loop-wanted-2 : goal.bounds-holders-place-in-loop-wanted-2
-bounds-holders-place-in-loop-wanted-2 t c =
-    let w = wants t (goal.at.bounds-holders-place-in-loop-wanted-2 t c).After-place-place in
-    let s = c.requires.1 in
-    omega arith
-
-pub next_held-wanted-requires-in-loop-wanted : goal.next_held-wanted-requires-in-loop-wanted
-next_held-wanted-requires-in-loop-wanted t c =
-    let s = c.requires.1 in
-    let back = restored c.loop-wanted.holders c.place-place.result c.args.asker ∙ c.loop-wanted.invariant.0 in
-    (record { low = c.requires.0; high = omega arith }, s.unknowns, rw back (all_held s c.if-free-ne0.false c.free_unknown-free.ensures))
+pub next_held-wanted-requires-in-Some-wanted : goal.next_held-wanted-requires-in-Some-wanted
+next_held-wanted-requires-in-Some-wanted t c =
+    let p = (goal.at.next_held-wanted-requires-in-Some-wanted t c).After-unwrap-holder in
+    let s = c.requires in
+    (omega arith, s.unknowns, subst (AllHeld c.args.unknowns (occurs_at c.args.table.now) (equation_number c.args.asker - 1)) (sym (back t p)) (all_held s (ap (or_zero unknown_number) c.in_default.is) c.free_unknown-free.ensures))
 
 pub loop-wanted-smaller : goal.loop-wanted-smaller
 loop-wanted-smaller t c =
-    let p = (goal.at.loop-wanted-smaller t c).After-place-place in
-    let w = wants t p in
-    let x = (rw c.loop-wanted.invariant.0 at c.search-moved.ensures) limit (asks c.requires.1 w.occurs w.by w.fresh (given-at t p)) in
-    let r = (x.nothing c.if-moved-ne0.false).1 in
-    let g = holder c.args.holders c.place-place.result - 1 in
-    falses_fall c.loop-wanted.asked c.search-moved.result.asked (c.loop-wanted.invariant.2 ∙ sym (search rules)) r.more g w.fresh r.self
+    let p = (goal.at.loop-wanted-smaller t c).After-unwrap-holder in
+    let x = (rw c.loop-wanted.invariant.0 at c.search-moved.ensures) limit (asks c.requires (wants t p).occurs (by t p) (fresh t p) (given-at t p)) in
+    let r = (x.nothing (none_unknown c.search-moved.result.got (sym c.is_some.ensures ∙ c.if-is_some.false))).1 in
+    falses_fall c.loop-wanted.asked c.search-moved.result.asked (c.loop-wanted.invariant.2 ∙ sym (search rules)) r.more (equation_number c.unwrap-holder.result - 1) (fresh t p) r.self
 
 pub loop-wanted-preserved : goal.loop-wanted-preserved
 loop-wanted-preserved t c =
-    let p = (goal.at.loop-wanted-preserved t c).After-place-place in
-    let w = wants t p in
-    let x = (rw c.loop-wanted.invariant.0 at c.search-moved.ensures) limit (asks c.requires.1 w.occurs w.by w.fresh (given-at t p)) in
-    let r = (x.nothing c.if-moved-ne0.false).1 in
-    let back = restored c.loop-wanted.holders c.place-place.result c.args.asker ∙ c.loop-wanted.invariant.0 in (
-      back,
-      turn_next (omega arith) c.loop-wanted.invariant.1 w.occurs w.by (given-at t p) r (rw (back, add-one c.place-place.result) at c.next_held-wanted-in-loop-wanted.ensures),
-      search rules,
-    )
+    let p = (goal.at.loop-wanted-preserved t c).After-unwrap-holder in
+    let x = (rw c.loop-wanted.invariant.0 at c.search-moved.ensures) limit (asks c.requires (wants t p).occurs (by t p) (fresh t p) (given-at t p)) in
+    let r = (x.nothing (none_unknown c.search-moved.result.got (sym c.is_some.ensures ∙ c.if-is_some.false))).1 in
+    let next = rw (back t p, add-one c.place-place.result) at c.next_held-wanted-in-Some-wanted.ensures in
+    let number = ap (or_zero unknown_number) c.in-Some-wanted.is in
+    let positive = c.in-Some-wanted.unknown.0.ok in
+    (back t p, turn_next (number ∙ (omega arith)) c.loop-wanted.invariant.1 (wants t p).occurs (by t p) (given-at t p) r next, search rules)
 
 pub returns : goal.returns
 returns t c =
     let n : length c.args.asked ≡ limit = search rules in
-    λ m s. has_nothing c.loop-wanted-test.false c.loop-wanted.invariant.0 (ends (rw n c.requires.1.asker) c.loop-wanted-test.false (all_held c.requires.1 c.if-free-ne0.false c.free_unknown-free.ensures)
-    (rw c.place-at.ensures at c.loop-wanted.invariant.1))
+    let none = ap (or_zero unknown_number) c.in_default-wanted.is in
+    let held = all_held c.requires (ap (or_zero unknown_number) c.in_default.is) c.free_unknown-free.ensures in
+    λ m s. has_nothing refl c.loop-wanted.invariant.0 (ends (rw n c.requires.asker) none held (rw c.place.ensures at c.loop-wanted.invariant.1))
