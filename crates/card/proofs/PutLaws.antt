@@ -9,8 +9,9 @@ use lib.Seq.{sets, length-sets, set_out, take-suc}
 use borrow.Author.Rules.{part_to_end}
 use lib.Dec.{ltb}
 use Rattle.laws.proofs.Tests.{test}
-use Rattle.card.specs.Text.{digit_of, zeros_of, dec}
-use Rattle.card.specs.Laid.{Laid}
+use Rattle.card.specs.Text.{comma, digit_of, zeros_of, dec}
+use Rattle.card.specs.Laid.{Laid, LaidOn}
+use Rattle.card.specs.declared.put.Sheet.{Sheet}
 
 pub laid_here : (l : List ℕ) (at b : ℕ) → Laid l at (b ∷ []) (set l at b) (at + 1)
 laid_here l at b = record { list = refl; place = refl }
@@ -33,10 +34,13 @@ laid_then {a} {b} {c} {xs} {ys} {i} {j} {k} p q =
 pub laid_length : {a b xs : List ℕ} {i j : ℕ} → Laid a i xs b j → length b ≡ length a
 laid_length {a} {b} {xs} {i} p = ap length p.list ∙ length-sets a i xs
 
+pub laid_on_then : {a b c : Sheet} {xs ys : List ℕ} → LaidOn a xs b → LaidOn b ys c → LaidOn a (xs ++ ys) c
+laid_on_then p q = record { same = q.same ∙ p.same; laid = laid_then p.laid q.laid }
+
 -- a run, byte by byte
-pub laid_more : (bytes : List ℕ) (i : ℕ) {before now after : List ℕ} {at j k : ℕ} → Laid before at (take i bytes) now j → i < length bytes
-    → Laid now j (get_or bytes i 0 ∷ []) after k → Laid before at (take (i + 1) bytes) after k
-laid_more bytes i p h q = rw (add-one, take-suc bytes i 0 h) (laid_then p q)
+pub laid_more : (bytes : List ℕ) (i : ℕ) {a b c : Sheet} → LaidOn a (take i bytes) b → i < length bytes → LaidOn b (get_or bytes i 0 ∷ []) c
+    → LaidOn a (take (i + 1) bytes) c
+laid_more bytes i p h q = rw (add-one, take-suc bytes i 0 h) (laid_on_then p q)
 
 -- ---- numbers
 
@@ -48,19 +52,20 @@ pub dec_short : (n : ℕ) → length (dec n) ≤ 4
 unfolding dec
 dec_short n = rw length-drop (omega arith)
 
+-- a number and the comma behind it
+pub comma_short : (n : ℕ) → length (dec n ++ comma ∷ []) ≤ 5
+comma_short n = omega (arith, dec_short n, length-append (dec n) (comma ∷ []))
+
 dec_is : (n : ℕ) → drop (zeros_of n) (digit_of (n / 1000) ∷ digit_of (n / 100) ∷ digit_of (n / 10) ∷ digit_of n ∷ []) ≡ dec n
 unfolding dec
 dec_is n = refl
 
 -- the four digits from the first that counts
-pub number_laid : (n : ℕ) {a b : List ℕ} {at next d₁ d₂ d₃ d₄ z : ℕ} → d₁ ≡ digit_of (n / 1000) → d₂ ≡ digit_of (n / 100) → d₃ ≡ digit_of (n / 10) → d₄
-    ≡ digit_of n → z ≡ zeros_of n
-    → Laid a at (take (4 - z) (drop z (d₁ ∷ d₂ ∷ d₃ ∷ d₄ ∷ []))) b next → Laid a at (dec n) b next
-number_laid n {a} {b} {at} {next} {d₁} {d₂} {d₃} {d₄} {z} p q r s t w = rw (← same) w
+pub digits_laid : (n : ℕ) {d₁ d₂ d₃ d₄ z : ℕ} → d₁ ≡ digit_of (n / 1000) → d₂ ≡ digit_of (n / 100) → d₃ ≡ digit_of (n / 10) → d₄ ≡ digit_of n → z ≡ zeros_of n
+    → take (4 - z) (drop z (d₁ ∷ d₂ ∷ d₃ ∷ d₄ ∷ [])) ≡ dec n
+digits_laid n {d₁} {d₂} {d₃} {d₄} {z} p q r s t =
+    part_to_end (d₁ ∷ d₂ ∷ d₃ ∷ d₄ ∷ []) z ∙ ap (drop z) four ∙ ap
+    (λ k. drop k (digit_of (n / 1000) ∷ digit_of (n / 100) ∷ digit_of (n / 10) ∷ digit_of n ∷ [])) t ∙ dec_is n
   where
     four : d₁ ∷ d₂ ∷ d₃ ∷ d₄ ∷ [] ≡ digit_of (n / 1000) ∷ digit_of (n / 100) ∷ digit_of (n / 10) ∷ digit_of n ∷ []
     four = cc
-
-    same : take (4 - z) (drop z (d₁ ∷ d₂ ∷ d₃ ∷ d₄ ∷ [])) ≡ dec n
-    same = part_to_end (d₁ ∷ d₂ ∷ d₃ ∷ d₄ ∷ []) z ∙ ap (drop z) four ∙ ap
-        (λ k. drop k (digit_of (n / 1000) ∷ digit_of (n / 100) ∷ digit_of (n / 10) ∷ digit_of n ∷ [])) t ∙ dec_is n

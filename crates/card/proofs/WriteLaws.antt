@@ -18,11 +18,12 @@ use Rattle.table.proofs.Model.{limits}
 use Rattle.card.specs.Text.{LF, comma, rig_key, equations_key, unknowns_key, occurs_key, end_key, dec}
 use Rattle.std.specs.List.{list_all}
 use Rattle.card.specs.Entry.{name_byte}
-use Rattle.card.specs.Card.{line_of, occurs_line, occurs_lines, occurrences, card_of}
+use Rattle.card.specs.Card.{line_of, occurs_line, occurs_lines, occurrences, head_lines, card_of}
 use Rattle.std.specs.Prelude.{Ok}
 use Rattle.card.specs.Promise.{WriteGood, WriteDone}
-use Rattle.card.specs.Laid.{Laid}
-use Rattle.card.proofs.PutLaws.{laid_then, dec_short}
+use Rattle.card.specs.Laid.{Laid, LaidOn}
+use Rattle.card.specs.declared.put.Sheet.{Sheet}
+use Rattle.card.proofs.PutLaws.{laid_on_then, dec_short}
 
 pub laid_same : {a b xs ys : List ℕ} {i j : ℕ} → xs ≡ ys → Laid a i xs b j → Laid a i ys b j
 laid_same e k = rw e at k
@@ -72,9 +73,9 @@ lines_step U t cell h =
     ∙ ap (λ n. occurs_lines U 0 (take cell t) ++ occurs_lines U n (x ∷ [])) z
     ∙ ap (λ l. occurs_lines U 0 (take cell t) ++ l) (append-nil (occurs_line U cell x)))
 
-pub laid_line : (U : ℕ) (t : List ℕ) (cell : ℕ) {before now after : List ℕ} {at j k : ℕ} → Laid before at (occurs_lines U 0 (take cell t)) now j → cell < length t
-    → Laid now j (occurs_line U cell (get_or t cell 0)) after k → Laid before at (occurs_lines U 0 (take (cell + 1) t)) after k
-laid_line U t cell p h q = laid_same (lines_step U t cell h) (laid_then p q)
+pub laid_line : (U : ℕ) (t : List ℕ) (cell : ℕ) {a b c : Sheet} → LaidOn a (occurs_lines U 0 (take cell t)) b → cell < length t
+    → LaidOn b (occurs_line U cell (get_or t cell 0)) c → LaidOn a (occurs_lines U 0 (take (cell + 1) t)) c
+laid_line U t cell p h q = rw (← lines_step U t cell h) (laid_on_then p q)
 
 -- the occurs lines so far are at most this long
 pub lines_near : (U : ℕ) (t : List ℕ) (cell : ℕ) → length (occurs_lines U 0 (take cell t)) ≤ 22 * cell
@@ -87,11 +88,10 @@ occurrences_count t = is_count_by occurrences (λ code. not (eqb code 0)) refl
 
 -- ---- the whole card
 
-pub card_parts : (name : List ℕ) (E U : ℕ) (t : List ℕ)
-    → line_of (rig_key ++ name) ++ line_of (equations_key ++ dec E) ++ line_of (unknowns_key ++ dec U) ++ occurs_lines U 0 t ++ line_of
-    (end_key ++ dec (occurrences t)) ≡ card_of name E U t
+pub card_laid : (name : List ℕ) (E U : ℕ) (t : List ℕ) {n : ℕ} {a b : Sheet} → n ≡ occurrences t
+    → LaidOn a (head_lines name E U ++ occurs_lines U 0 t ++ line_of (end_key ++ dec n)) b → LaidOn a (card_of name E U t) b
 unfolding card_of
-card_parts name E U t = refl
+card_laid name E U t e p = rw (← e) p
 
 -- a line of a key and a number is at most this long
 pub key_line_short : (key : List ℕ) (n : ℕ) → length (line_of (key ++ dec n)) ≤ length key + 5

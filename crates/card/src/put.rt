@@ -1,28 +1,14 @@
-// Bytes laid into a card from a place on. Where there is no room a byte is counted and not written, so that a card is measured by laying it into nothing.
+// Bytes laid into a buffer, one behind another.
 ghost use Rattle.std.specs.Prelude.{◌≡◌, [], ◌∷◌, ◌++◌, ◌+◌, ◌^◌, ◌<◌, length};
 ghost use Rattle.card.specs.Text.{comma, digit_of, zeros_of, dec};
 ghost use Rattle.card.specs.Card.{line_of};
-ghost use Rattle.card.specs.Laid.{Laid};
+ghost use Rattle.card.specs.Laid.{LaidOn};
 
-pub fn put(card: &mut [u8], at: usize, byte: u8) -> usize
-    requires { at + 1 < 2 ^ 64 }
-    ensures { Laid card.old at (byte ∷ []) card.new result }
-{
-    if at < card.len() {
-        card[at] = byte;
-    }
-    at + 1
-}
-
-pub fn put_all(card: &mut [u8], at: usize, bytes: &[u8]) -> usize
-    requires { at + length bytes.now < 2 ^ 64 }
-    ensures { Laid card.old at bytes.now card.new result }
-{
-    let mut next = at;
-    for &byte in bytes {
-        next = put(card, next, byte);
-    }
-    next
+// A buffer, and the place of its next byte. Where there is no room a byte is counted and not written, so that a card is measured by laying it into nothing.
+#[derive(Drop)]
+pub struct Sheet<'a> {
+    pub buffer: &'a mut [u8],
+    pub at: usize,
 }
 
 // The last decimal digit.
@@ -48,35 +34,59 @@ fn zeros_of(n: usize) -> usize
     0
 }
 
-// The decimal digits of a number up to 9999.
-pub fn put_number(card: &mut [u8], at: usize, n: usize) -> usize
-    requires { at + 4 < 2 ^ 64 }
-    ensures { Laid card.old at (dec n) card.new result }
-{
-    let thousands = digit_of(n / 1000);
-    let hundreds = digit_of(n / 100);
-    let tens = digit_of(n / 10);
-    let ones = digit_of(n);
-    let digits = [thousands, hundreds, tens, ones];
-    let from = zeros_of(n);
-    put_all(card, at, &digits[from..])
-}
+impl<'a> Sheet<'a> {
+    pub fn put(&mut self, byte: u8)
+        requires { self.old.at + 1 < 2 ^ 64 }
+        ensures { LaidOn self.old (byte ∷ []) self.new }
+    {
+        if self.at < self.buffer.len() {
+            self.buffer[self.at] = byte;
+        }
+        self.at += 1;
+    }
 
-// A line of a key and one number.
-pub fn put_line(card: &mut [u8], at: usize, key: &[u8], n: usize) -> usize
-    requires { at + length key.now + 5 < 2 ^ 64 }
-    ensures { Laid card.old at (line_of (key.now ++ dec n)) card.new result }
-{
-    let behind_key = put_all(card, at, key);
-    let behind_number = put_number(card, behind_key, n);
-    put(card, behind_number, b'\n')
-}
+    pub fn put_all(&mut self, bytes: &[u8])
+        requires { self.old.at + length bytes.now < 2 ^ 64 }
+        ensures { LaidOn self.old bytes.now self.new }
+    {
+        for &byte in bytes {
+            self.put(byte);
+        }
+    }
 
-// `e,` or `u,`
-pub fn put_comma(card: &mut [u8], at: usize, n: usize) -> usize
-    requires { at + 5 < 2 ^ 64 }
-    ensures { Laid card.old at (dec n ++ comma ∷ []) card.new result }
-{
-    let behind = put_number(card, at, n);
-    put(card, behind, b',')
+    // The decimal digits of a number up to 9999.
+    #[tactic(auto, using(crate::proofs::PutLaws::digits_laid))]
+    pub fn put_number(&mut self, n: usize)
+        requires { self.old.at + 4 < 2 ^ 64 }
+        ensures { LaidOn self.old (dec n) self.new }
+    {
+        let thousands = digit_of(n / 1000);
+        let hundreds = digit_of(n / 100);
+        let tens = digit_of(n / 10);
+        let ones = digit_of(n);
+        let digits = [thousands, hundreds, tens, ones];
+        let from = zeros_of(n);
+        self.put_all(&digits[from..]);
+    }
+
+    // A line of a key and one number.
+    #[tactic(auto, using(crate::proofs::PutLaws::dec_short))]
+    pub fn put_line(&mut self, key: &[u8], n: usize)
+        requires { self.old.at + length key.now + 5 < 2 ^ 64 }
+        ensures { LaidOn self.old (line_of (key.now ++ dec n)) self.new }
+    {
+        self.put_all(key);
+        self.put_number(n);
+        self.put(b'\n');
+    }
+
+    // `e,` or `u,`
+    #[tactic(auto, using(crate::proofs::PutLaws::dec_short))]
+    pub fn put_comma(&mut self, n: usize)
+        requires { self.old.at + 5 < 2 ^ 64 }
+        ensures { LaidOn self.old (dec n ++ comma ∷ []) self.new }
+    {
+        self.put_number(n);
+        self.put(b',');
+    }
 }
