@@ -82,13 +82,12 @@ fn write(answer: &mut [u8], n: usize, solution: &Solution)
 }
 
 // The number and the strips of a solvable model.
-#[tactic(auto, using(crate::proofs::Solution::is_solved))]
 pub fn solvable(rows: &Rows, n: usize, answer: &mut [u8]) -> u64
     requires { Pairable n rows.now × (answer_bytes ≤ length answer.old) }
     ensures { Solved n (occurs_at rows.now) (order_at rows.now) n answer.old result answer.new }
 {
     let solution = solve(rows, n);
-    write(&mut *answer, n, &solution);
+    write(answer, n, &solution);
     pack(
         0,
         0,

@@ -29,7 +29,7 @@ pub fn numbers(stretch: &mut [u8], n: usize, numbers: Row)
     requires { (length stretch.old ≡ limit) × (n ≤ limit) }
     ensures { stretch.new ≡ strip (take n numbers) }
 {
-    unused(&mut *stretch);
+    unused(stretch);
     stretch[..n].copy_from_slice(&numbers[..n]);
 }
 
@@ -38,7 +38,7 @@ pub fn listed(stretch: &mut [u8], n: usize, marks: Marks)
     requires { (length stretch.old ≡ limit) × (n ≤ limit) }
     ensures { stretch.new ≡ strip (map suc (members n (marked marks))) }
 {
-    unused(&mut *stretch);
+    unused(stretch);
     for (at, i) in (0..n).filter(|&i| marks[i]).enumerate() {
         stretch[at] = (i + 1) as u8;
     }

@@ -6,7 +6,7 @@ ghost use Rattle.analysis.specs.Outcome.{answer_bytes, Verdict};
 use crate::number::pack;
 use crate::singular::write;
 use crate::solvable::solvable;
-use pairing::left::left_over;
+use pairing::left::{Left, left_over};
 use table::Rows;
 
 // Solvable means E = U = rank.
@@ -21,13 +21,14 @@ pub fn verdict(rows: &Rows, equations: usize, unknowns: usize, answer: &mut [u8]
     requires { Bounded equations unknowns rows.now × (answer_bytes ≤ length answer.old) }
     ensures { Verdict equations unknowns (occurs_at rows.now) (order_at rows.now) answer.old result answer.new }
 {
-    let left = left_over(rows, equations, unknowns);
-    let rank = left.rank;
+    let Left {
+        rank,
+        surplus,
+        unfixed,
+    } = left_over(rows, equations, unknowns);
     if all_paired(equations, unknowns, rank) {
         return solvable(rows, equations, answer);
     }
-    let surplus = left.surplus;
-    let unfixed = left.unfixed;
-    write(&mut *answer, equations, unknowns, surplus, unfixed);
+    write(answer, equations, unknowns, surplus, unfixed);
     pack(10, 0, rank, 0, 0, 0)
 }

@@ -5,13 +5,13 @@ use Rattle.analysis.proofs.verdict.verdict.Goals as goal
 
 pub solvable-requires : goal.solvable-requires
 solvable-requires c =
-    (all_pairable c.requires.0 c.left_over-left.ensures (sym c.all_paired.ensures ∙ c.if-all_paired.true), c.requires.1)
+    (all_pairable c.requires.0 c.left_over-rank.ensures (sym c.all_paired.ensures ∙ c.if-all_paired.true), c.requires.1)
 
 pub returns-then-all_paired : goal.returns-then-all_paired
 returns-then-all_paired c =
-    verdict_solvable c.left_over-left.ensures (sym c.all_paired.ensures ∙ c.if-all_paired.true) c.solvable.ensures
+    verdict_solvable c.left_over-rank.ensures (sym c.all_paired.ensures ∙ c.if-all_paired.true) c.solvable.ensures
 
 pub returns : goal.returns
 returns c =
-    verdict_singular c.left_over-left.ensures (sym c.all_paired.ensures ∙ c.if-all_paired.false) c.pack.ensures
+    verdict_singular c.left_over-rank.ensures (sym c.all_paired.ensures ∙ c.if-all_paired.false) c.pack.ensures
     c.write.ensures
