@@ -6,4 +6,4 @@ use Rattle.card.proofs.PutLaws.{dec_short}
 use Rattle.report.proofs.text.put_figure.Goals as goal
 
 pub returns-clause-near : goal.returns-clause-near
-returns-clause-near c = omega (arith, c.put_line.ensures.place, length-append {A = ℕ}, dec_short c.from.result)
+returns-clause-near c = omega (arith, c.put_line.ensures.laid.place, length-append {A = ℕ}, dec_short c.from.result)

@@ -1,6 +1,6 @@
 -- `text::put_left`: its parts, one behind another.
-use Rattle.card.proofs.PutLaws.{laid_then}
+use Rattle.card.proofs.PutLaws.{laid_on_then}
 use Rattle.report.proofs.text.put_left.Goals as goal
 
 pub returns-clause-text : goal.returns-clause-text
-returns-clause-text c = laid_then c.put_all-start.ensures (laid_then c.put_used-end.ensures c.put.ensures)
+returns-clause-text c = laid_on_then c.put_all.ensures (laid_on_then c.put_used.ensures c.put.ensures)
