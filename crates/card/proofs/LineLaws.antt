@@ -188,9 +188,6 @@ countable s key at n next p = go (end_of at (lines_of (drop at s))) refl
 -- ---- the first three lines together
 
 module _ (s name : List ℕ) (at : ℕ) where
-  pub counts_one : {r : Refused} → count_of equations_key at (lines_of (drop at s)) ≡ Err r → headed name at (lines_of (drop at s)) ≡ refused r
-  counts_one p = rw p
-
   module _ {E next : ℕ} (first : count_of equations_key at (lines_of (drop at s)) ≡ Ok (E, next)) where
     pub counts_two : {r : Refused} → count_of unknowns_key next (lines_of (drop next s)) ≡ Err r → headed name at (lines_of (drop at s)) ≡ refused r
     counts_two p = let k = countable s equations_key at E next first in rw (first, k.on, p)
@@ -201,6 +198,3 @@ module _ (s name : List ℕ) (at : ℕ) where
 
 pub rig_on : (s : List ℕ) {e : ℕ} → rig_of (lines_of s) ≡ Ok e → judged s ≡ headed (drop (length rig_key) (take e s)) (e + 1) (lines_of (drop (e + 1) s))
 rig_on s {e} p = let k = rigged s e p in rw (p, k.is)
-
-pub rig_off : (s : List ℕ) {r : Refused} → rig_of (lines_of s) ≡ Err r → judged s ≡ refused r
-rig_off s p = rw p

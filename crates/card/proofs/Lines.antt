@@ -12,7 +12,7 @@ use Rattle.laws.proofs.Tests.{test, clash, and_left, and_right, and_both}
 use Rattle.std.specs.Prelude.{Option, None, Some}
 use Rattle.card.specs.Text.{LF, comma, occurs_key, end_key, begins, is_digit, number, number_of, dec, Lines, none, cut, line, grown, lines_of}
 use Rattle.std.specs.List.{list_all}
-use Rattle.card.specs.Entry.{name_byte, alone, whole_of, value_of, with_comma, comma_of, order_of, unknown_of, equation_of, triple_of, ended, entry_of}
+use Rattle.card.specs.Entry.{occurrence, name_byte, alone, whole_of, value_of, with_comma, comma_of, order_of, unknown_of, equation_of, triple_of, ended, entry_of}
 use Rattle.card.specs.declared.text.Number.{Number}
 use Rattle.card.specs.declared.entry.Entry.TheVariants.{Occurs, End}
 use Rattle.card.proofs.EntryLaws.{entry_end}
@@ -39,14 +39,14 @@ comma_dec n s h = rw (number_dec n (comma ∷ s) h refl, drop-append_seam (dec n
 comma_behind : (n : ℕ) (s : List ℕ) → drop (length (dec n) + 1) (dec n ++ comma ∷ s) ≡ s
 comma_behind n s = drop-append-add (dec n) (comma ∷ s) 1
 
-triple_dec : (e u k : ℕ) → e ≤ 9999 → u ≤ 9999 → k ≤ 9999 → triple_of (dec e ++ comma ∷ (dec u ++ comma ∷ dec k)) ≡ Some (Occurs e u k)
+triple_dec : (e u k : ℕ) → e ≤ 9999 → u ≤ 9999 → k ≤ 9999 → triple_of (dec e ++ comma ∷ (dec u ++ comma ∷ dec k)) ≡ Some (Occurs (occurrence e u k))
 triple_dec e u k a b c =
     rw (comma_dec e (dec u ++ comma ∷ dec k) a, comma_behind e (dec u ++ comma ∷ dec k), comma_dec u (dec k) b, comma_behind u (dec k), whole_dec k c)
 
 occurs_right : (e u k : ℕ) → dec e ++ comma ∷ dec u ++ comma ∷ dec k ≡ dec e ++ comma ∷ (dec u ++ comma ∷ dec k)
 occurs_right e u k = append_assoc (dec e) (comma ∷ dec u) (comma ∷ dec k)
 
-pub entry_occurs : (e u k : ℕ) → e ≤ 9999 → u ≤ 9999 → k ≤ 9999 → entry_of (occurs_key ++ dec e ++ comma ∷ dec u ++ comma ∷ dec k) ≡ Some (Occurs e u k)
+pub entry_occurs : (e u k : ℕ) → e ≤ 9999 → u ≤ 9999 → k ≤ 9999 → entry_of (occurs_key ++ dec e ++ comma ∷ dec u ++ comma ∷ dec k) ≡ Some (Occurs (occurrence e u k))
 entry_occurs e u k a b c = ap triple_of (occurs_right e u k) ∙ triple_dec e u k a b c
 
 pub entry_ended : (n : ℕ) → n ≤ 9999 → entry_of (end_key ++ dec n) ≡ Some (End n)
@@ -103,41 +103,42 @@ comma_is s d e = go (number_of s) refl e
 pub record Triple (s : List ℕ) (e u k : ℕ) : Type 0 where
   pub is : s ≡ dec e ++ comma ∷ (dec u ++ comma ∷ dec k)
 
-triple_is : (s : List ℕ) (e u k : ℕ) → triple_of s ≡ Some (Occurs e u k) → Triple s e u k
+triple_is : (s : List ℕ) (e u k : ℕ) → triple_of s ≡ Some (Occurs (occurrence e u k)) → Triple s e u k
 triple_is s e u k q = first (comma_of s) refl q
   where
     third : (a b : Number) → comma_of s ≡ Some a → comma_of (drop a.took s) ≡ Some b
-        → (v : Option ℕ) → whole_of (drop b.took (drop a.took s)) ≡ v → order_of a.value b.value v ≡ Some (Occurs e u k) → Triple s e u k
+        → (v : Option ℕ) → whole_of (drop b.took (drop a.took s)) ≡ v → order_of a.value b.value v ≡ Some (Occurs (occurrence e u k)) → Triple s e u k
     third a b p r None w q = cc
     third a b p r (Some h) w q =
-        let x : a.value ≡ e = cc in
-        let y : b.value ≡ u = cc in
-        let z : h ≡ k = cc in
+        let o : occurrence a.value b.value h ≡ occurrence e u k = cc in
+        let x : a.value ≡ e = ap (λ o. o.equation) o in
+        let y : b.value ≡ u = ap (λ o. o.unknown) o in
+        let z : h ≡ k = ap (λ o. o.order) o in
         let l : drop b.took (drop a.took s) ≡ dec h = (whole_is (drop b.took (drop a.took s)) h w).0 in
         let m : drop a.took s ≡ dec b.value ++ comma ∷ drop b.took (drop a.took s) = (comma_is (drop a.took s) b r).0 in
         let n : s ≡ dec a.value ++ comma ∷ drop a.took s = (comma_is s a p).0 in
         record { is = cc }
 
     second : (a : Number) → comma_of s ≡ Some a → (v : Option Number) → comma_of (drop a.took s) ≡ v
-        → unknown_of a.value (drop a.took s) v ≡ Some (Occurs e u k) → Triple s e u k
+        → unknown_of a.value (drop a.took s) v ≡ Some (Occurs (occurrence e u k)) → Triple s e u k
     second a p None r q = cc
     second a p (Some b) r q = third a b p r (whole_of (drop b.took (drop a.took s))) refl q
 
-    first : (v : Option Number) → comma_of s ≡ v → equation_of s v ≡ Some (Occurs e u k) → Triple s e u k
+    first : (v : Option Number) → comma_of s ≡ v → equation_of s v ≡ Some (Occurs (occurrence e u k)) → Triple s e u k
     first None p q = cc
     first (Some a) p q = second a p (comma_of (drop a.took s)) refl q
 
-pub entry_occurs_is : (s : List ℕ) (e u k : ℕ) → entry_of s ≡ Some (Occurs e u k) → s ≡ occurs_key ++ dec e ++ comma ∷ dec u ++ comma ∷ dec k
+pub entry_occurs_is : (s : List ℕ) (e u k : ℕ) → entry_of s ≡ Some (Occurs (occurrence e u k)) → s ≡ occurs_key ++ dec e ++ comma ∷ dec u ++ comma ∷ dec k
 entry_occurs_is s e u k q =
     test (begins end_key s)
     (λ h. ended_occurs (value_of end_key s) (entry_end s h ∙ q))
     (λ h. test (begins occurs_key s)
     (λ o.
-    let t : triple_of (drop (length occurs_key) s) ≡ Some (Occurs e u k) = rw (h, o) at q in
+    let t : triple_of (drop (length occurs_key) s) ≡ Some (Occurs (occurrence e u k)) = rw (h, o) at q in
     begins_is occurs_key s o ∙ ap (λ l. occurs_key ++ l) ((triple_is (drop (length occurs_key) s) e u k t).is ∙ sym (occurs_right e u k)))
-    (λ o. let f : None ≡ Some (Occurs e u k) = rw (h, o) at q in cc))
+    (λ o. let f : None ≡ Some (Occurs (occurrence e u k)) = rw (h, o) at q in cc))
   where
-    ended_occurs : (v : Option ℕ) → ended v ≡ Some (Occurs e u k) → s ≡ occurs_key ++ dec e ++ comma ∷ dec u ++ comma ∷ dec k
+    ended_occurs : (v : Option ℕ) → ended v ≡ Some (Occurs (occurrence e u k)) → s ≡ occurs_key ++ dec e ++ comma ∷ dec u ++ comma ∷ dec k
     ended_occurs None q = cc
     ended_occurs (Some n) q = cc
 

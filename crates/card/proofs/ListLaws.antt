@@ -78,7 +78,8 @@ taking : (E U e' u' at next : ℕ) (en : Option Entry) {e u code n : ℕ} → tu
     → Taking E U e' u' e u code × (next ≡ n)
 taking E U e' u' at next None q = cc
 taking E U e' u' at next (Some (End m)) q = cc
-taking E U e' u' at next (Some (Occurs e₀ u₀ k)) {e} {u} {code} {n} q =
+taking E U e' u' at next (Some (Occurs o)) {e} {u} {code} {n} q =
+    let e₀ = o.equation in let u₀ = o.unknown in let k = o.order in
     test (in_range E U e₀ u₀ k)
     (λ t. test (not_after e₀ u₀ e' u')
     (λ b. let f : Err (refused_at NotAfter at) ≡ Ok (occurs e u code n) = rw (t, b) at q in cc)
@@ -92,7 +93,8 @@ taking E U e' u' at next (Some (Occurs e₀ u₀ k)) {e} {u} {code} {n} q =
 last_said : (E U e' u' at next : ℕ) (en : Option Entry) {m n : ℕ} → turn_said E U e' u' at next en ≡ Ok (ends m n) → (en ≡ Some (End m)) × (next ≡ n)
 last_said E U e' u' at next None q = cc
 last_said E U e' u' at next (Some (End m)) q = (cc, cc)
-last_said E U e' u' at next (Some (Occurs e u k)) {m} {n} q =
+last_said E U e' u' at next (Some (Occurs o)) {m} {n} q =
+    let e = o.equation in let u = o.unknown in let k = o.order in
     test (in_range E U e u k)
     (λ t. test (not_after e u e' u') (λ b. cc (simp (t, b) at q)) (λ b. cc (simp (t, b) at q)))
     (λ t. test (not_after e u e' u') (λ b. cc (simp (t, b) at q)) (λ b. cc (simp (t, b) at q)))
@@ -188,10 +190,6 @@ module _ {s : List ℕ} {E U from : ℕ} {t : List ℕ} {e' u' n at : ℕ} (k : 
             ∙ collected_turn name E U n e' u' (take (E * U) t) at (lines_of (drop at s))
             ∙ rw (q, w.1.on, take-set-lt (E * U) t (cell U e u) code (cell_within w.0.ranged));
       }
-
-  pub collecting_refused : {r : Refused} → turn_of E U e' u' at (lines_of (drop at s)) ≡ Err r → ListRead s E U from (Err r)
-  collecting_refused {r} q =
-      record { same = λ name. k.same name ∙ collected_turn name E U n e' u' (take (E * U) t) at (lines_of (drop at s)) ∙ rw q; sized = tt }
 
   module _ {m next : ℕ} (q : turn_of E U e' u' at (lines_of (drop at s)) ≡ Ok (ends m next)) where
     ending : (name : List ℕ) → list_of name E U from (lines_of (drop from s))

@@ -15,7 +15,7 @@ use Rattle.table.specs.Model.{limit, counted_in, Numbered}
 use Rattle.table.proofs.Model.{counted}
 use Rattle.card.specs.Text.{LF, comma, rig_key, equations_key, unknowns_key, occurs_key, end_key, begins, dec, Lines, none, cut, line, lines_of}
 use Rattle.std.specs.List.{list_all}
-use Rattle.card.specs.Entry.{name_byte, good_name, value_of, entry_of}
+use Rattle.card.specs.Entry.{occurrence, name_byte, good_name, value_of, entry_of}
 use Rattle.card.specs.Card.{refused, behind, rig_of, count_said, count_of, in_range, not_after, turn_said, cell, finished, from_turn, collected, list_of, headed}
 use Rattle.card.specs.Card.{from_count, from_rig, judged}
 use Rattle.card.specs.declared.entry.Entry.{Entry}
@@ -53,7 +53,7 @@ line_size l rest = length-append l (LF ∷ text_of rest) ∙ omega arith
 -- ---- the occurs lines and the end line
 
 -- an occurs line and its LF are as long as its pair's line
-line_long : {E U e u k : ℕ} (l : List ℕ) → Ranged E U e u k → entry_of l ≡ Some (Occurs e u k) → length l + 1 ≡ weight U (cell U e u)
+line_long : {E U e u k : ℕ} (l : List ℕ) → Ranged E U e u k → entry_of l ≡ Some (Occurs (occurrence e u k)) → length l + 1 ≡ weight U (cell U e u)
 unfolding weight
 line_long {E} {U} {e} {u} {k} l ra en =
     let lo = length-append (occurs_key ++ dec e ++ comma ∷ dec u ++ comma ∷ dec k) (LF ∷ []) in
@@ -108,12 +108,12 @@ module _ (size : ℕ) (name : List ℕ) (E U : ℕ) (a : E ≤ limit) (b : U ≤
       next : ℕ
       next = at + length l + 1
 
-      go : (en : Option Entry) → entry_of l ≡ en → from_turn name E U n t at (turn_said E U e' u' at next en) rest
+      Low_at : Option Entry → Type 0
+      Low_at en = entry_of l ≡ en → from_turn name E U n t at (turn_said E U e' u' at next en) rest
           (λ e u t next. collected name E U (n + 1) e u t next rest) ≡ refused r → LowRefused size r
-      go None en w = here Shape k (omega arith) (omega arith) w
-      go (Some (End N)) en w =
-          test (eqb N n) (λ z. end_low t l rest en k (rw z at w)) (λ z. here EndNumber k (omega arith) (omega arith) (rw z at w))
-      go (Some (Occurs e u x)) en w =
+
+      taken : (e u x : ℕ) → Low_at (Some (Occurs (occurrence e u x)))
+      taken e u x en w =
           test (in_range E U e u x)
           (λ i. test (not_after e u e' u')
           (λ p. here NotAfter k (omega arith) (omega arith) (rw (i, p) at w))
@@ -132,6 +132,12 @@ module _ (size : ℕ) (name : List ℕ) (E U : ℕ) (a : E ≤ limit) (b : U ≤
           (λ i. test (not_after e u e' u')
           (λ p. here _ k (omega arith) (omega arith) (simp (i, p) at w))
           (λ p. here _ k (omega arith) (omega arith) (simp (i, p) at w)))
+
+      go : (en : Option Entry) → Low_at en
+      go None en w = here Shape k (omega arith) (omega arith) w
+      go (Some (End N)) en w =
+          test (eqb N n) (λ z. end_low t l rest en k (rw z at w)) (λ z. here EndNumber k (omega arith) (omega arith) (rw z at w))
+      go (Some (Occurs o)) en w = taken o.equation o.unknown o.order en w
 
   lines_low : (ls : Lines) → Claim ls
   unfolding Claim

@@ -1,23 +1,15 @@
 -- Laws of laying bytes into a card: one run behind another is one longer run, and a byte for which there is no room changes nothing.
-use mathlib.Core.Path.{◌≡◌, refl, ap, sym, ◌∙◌}
+use mathlib.Core.Path.{◌≡◌, refl, ap, ◌∙◌}
 use mathlib.Core.List.{List, [], ◌∷◌, ◌++◌}
 use Prim.Native.Nat.{ℕ, suc, ◌+◌, ◌-◌, ◌/◌, ◌≤◌, ◌<◌}
 use native.Mathlib.Omega.{arith}
 use native.Mathlib.Numerals.{add-one}
 use lib.ListN.{length, get_or, take, drop, set, length-append, length-drop}
-use lib.Seq.{sets, length-sets, set_out, take-suc}
+use lib.Seq.{sets, length-sets, take-suc}
 use borrow.Author.Rules.{part_to_end}
-use lib.Dec.{ltb}
-use Rattle.laws.proofs.Tests.{test}
 use Rattle.card.specs.Text.{comma, digit_of, zeros_of, dec}
 use Rattle.card.specs.Laid.{Laid, LaidOn}
 use Rattle.card.specs.declared.put.Sheet.{Sheet}
-
-pub laid_here : (l : List ℕ) (at b : ℕ) → Laid l at (b ∷ []) (set l at b) (at + 1)
-laid_here l at b = record { list = refl; place = refl }
-
-pub laid_out : (l : List ℕ) (at b : ℕ) → length l ≤ at → Laid l at (b ∷ []) l (at + 1)
-laid_out l at b h = record { list = sym (set_out l at b h); place = refl }
 
 sets_append : (xs ys l : List ℕ) (i : ℕ) → sets (sets l i xs) (i + length xs) ys ≡ sets l i (xs ++ ys)
 sets_append [] ys l i = let z : i + 0 ≡ i = omega arith in rw z
@@ -43,10 +35,6 @@ pub laid_more : (bytes : List ℕ) (i : ℕ) {a b c : Sheet} → LaidOn a (take 
 laid_more bytes i p h q = rw (add-one, take-suc bytes i 0 h) (laid_on_then p q)
 
 -- ---- numbers
-
-pub zeros_small : (n : ℕ) → zeros_of n ≤ 3
-zeros_small n = test (ltb n 10) (λ a. rw a (omega arith)) (λ a. test (ltb n 100) (λ b. rw (a, b) (omega arith))
-    (λ b. test (ltb n 1000) (λ c. rw (a, b, c) (omega arith)) (λ c. rw (a, b, c) (omega arith))))
 
 pub dec_short : (n : ℕ) → length (dec n) ≤ 4
 unfolding dec

@@ -10,7 +10,7 @@ use lib.Seq.{take-nil}
 use Rattle.card.specs.Text.{rig_key}
 use Rattle.std.specs.Prelude.{Result, Ok, Err, is_err}
 use Rattle.card.specs.declared.refusal.Refused.{Refused}
-use Rattle.card.specs.declared.judge.Head.{Head}
+use Rattle.card.specs.declared.head.Head.{Head}
 use Rattle.card.specs.Promise.{NamePart}
 use Rattle.card.specs.Steps.{from_head, HeadRead, ListRead}
 
@@ -27,7 +27,7 @@ part_name s end = go 4 end s
 
 -- the name of a good card
 pub name_good : {card : Bor (List ℕ)} {q : Result Head Refused} {h : Head} {p : ℕ} (r : Result (List ℕ) Refused) → HeadRead card.now q → q ≡ Ok h
-    → ListRead card.now h.equations h.unknowns h.next r → is_err r ≡ false → p ≡ 4 + card.ref_ptr.1
+    → ListRead card.now h.limits.equations h.limits.unknowns h.next r → is_err r ≡ false → p ≡ 4 + card.ref_ptr.1
     → NamePart card (record { ref_ptr = (card.ref_ptr.0, p); now = take (h.name_end - 4) (drop 4 card.now) })
 name_good (Err m) k e l f z = cc
 name_good {card} {q} {h} (Ok t) k e l f z =

@@ -13,7 +13,7 @@ use Rattle.laws.proofs.Tests.{test, either, and_both}
 use Rattle.table.specs.Model.{top_code, counted_in}
 use Rattle.card.specs.Text.{LF, comma, rig_key, equations_key, unknowns_key, occurs_key, end_key, begins, dec, Lines, none, cut, line, lines_of}
 use Rattle.std.specs.List.{list_all}
-use Rattle.card.specs.Entry.{good_name, value_of, entry_of}
+use Rattle.card.specs.Entry.{occurrence, good_name, value_of, entry_of}
 use Rattle.card.specs.Card.{Judged, good, behind, rig_of, count_said, count_of, in_range, not_after, turn_said, cell, finished, from_turn}
 use Rattle.card.specs.Card.{collected, list_of, from_count, headed, from_rig, judged, line_of, occurs_lines, occurrences, card_of}
 use Rattle.std.specs.Prelude.{Option, None, Some, Result, Ok, Err}
@@ -118,7 +118,7 @@ module _ (name : List ℕ) (E U : ℕ) where
       }
 
   -- an occurs line
-  occurs_rest : (p : List ℕ) (n c m j m' : ℕ) (l : List ℕ) (rest : Lines) (name' : List ℕ) (E' U' : ℕ) (T : List ℕ) {e u k : ℕ} → entry_of l ≡ Some (Occurs e u k) → Ranged E U e u k
+  occurs_rest : (p : List ℕ) (n c m j m' : ℕ) (l : List ℕ) (rest : Lines) (name' : List ℕ) (E' U' : ℕ) (T : List ℕ) {e u k : ℕ} → entry_of l ≡ Some (Occurs (occurrence e u k)) → Ranged E U e u k
       → c + j ≡ cell U e u → j + suc m' ≡ m → Rest ((p ++ replicate j 0) ++ (k + 1) ∷ []) (n + 1) (cell U e u + 1) m' rest name' E' U' T
       → Rest p n c m (line l rest) name' E' U' T
   unfolding text_of
@@ -165,14 +165,12 @@ module _ (name : List ℕ) (E U : ℕ) where
       on : ℕ → ℕ → List ℕ → ℕ → Judged
       on e u t next = collected name E U (n + 1) e u t next rest
 
-      go : (en : Option Entry) → entry_of l ≡ en → from_turn name E U n t at (turn_said E U e' u' at next en) rest on ≡ good name' E' U' T → Rest p n c m
+      Rest_at : Option Entry → Type 0
+      Rest_at en = entry_of l ≡ en → from_turn name E U n t at (turn_said E U e' u' at next en) rest on ≡ good name' E' U' T → Rest p n c m
           (line l rest) name' E' U' T
-      go None en q = cc
-      go (Some (End N)) en q =
-          test (eqb N n)
-          (λ h. end_rest p n c m next N l rest name' E' U' T en (eqb-true N n h) (rw h at q))
-          (λ h. cc (rw h at q))
-      go (Some (Occurs e u k)) en q =
+
+      taken : (e u k : ℕ) → Rest_at (Some (Occurs (occurrence e u k)))
+      taken e u k en q =
           test (in_range E U e u k)
           (λ h. test (not_after e u e' u')
           (λ b. cc (rw (h, b) at q))
@@ -194,6 +192,14 @@ module _ (name : List ℕ) (E U : ℕ) where
           (ih ((p ++ replicate j 0) ++ (k + 1) ∷ []) (n + 1) e u next (cell U e u + 1) m' name' E' U' T lp' (omega arith) (reached_some E U e u k ra)
           (ap (λ i. collected name E U (n + 1) e u i next rest) (sym s) ∙ f))))
           (λ h. test (not_after e u e' u') (λ b. cc (simp (h, b) at q)) (λ b. cc (simp (h, b) at q)))
+
+      go : (en : Option Entry) → Rest_at en
+      go None en q = cc
+      go (Some (End N)) en q =
+          test (eqb N n)
+          (λ h. end_rest p n c m next N l rest name' E' U' T en (eqb-true N n h) (rw h at q))
+          (λ h. cc (rw h at q))
+      go (Some (Occurs o)) en q = taken o.equation o.unknown o.order en q
 
   collected_is : (ls : Lines) → Claim ls
   unfolding Claim

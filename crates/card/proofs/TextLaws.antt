@@ -8,12 +8,12 @@ use native.Mathlib.Numerals.{add-one}
 use lib.Dec.{leb, eqb}
 use lib.ListN.{length, get_or, take, drop, length-take, drop_of_length-le}
 use lib.Seq.{drop-cons}
-use borrow.Author.Tests.{ne_eqb, leb-true, leb-false}
+use borrow.Author.Tests.{leb-true, leb-false}
 use Rattle.std.specs.Prelude.{Some}
 use Rattle.std.proofs.lemmas.List.{get_or-take}
 use Rattle.laws.specs.Tab.{pick}
 use Rattle.laws.proofs.Tests.{test, and_left, and_right}
-use Rattle.card.specs.Text.{begins, is_digit, number, digits_of, number_of, Lines, none, cut, line, grown, lines_of, LF}
+use Rattle.card.specs.Text.{begins, is_digit, number, digits_of, number_of, Lines, none, cut, line, grown}
 use Rattle.card.specs.declared.text.Number.{Number}
 use Rattle.card.specs.Steps.{end_of}
 
@@ -36,12 +36,12 @@ digits_end zero value took = refl
 digits_end (suc more) value took = refl
 
 -- what the loop over digits keeps: the number is what is read so far, with the digits to come
-pub record Taken (first : ℕ) (rest : List ℕ) (d : Number) (i : ℕ) : Type 0 where
+pub record Taken (text : List ℕ) (d : Number) (i : ℕ) : Type 0 where
   pub three : i ≤ 3
-  pub within : i ≤ length rest
+  pub within : i + 1 ≤ length text
   pub small : d.value < 10 ^ (i + 1)
   pub took : d.took ≡ i + 1
-  pub same : digits_of 3 (first - 48) 1 rest ≡ digits_of (3 - i) d.value d.took (drop i rest)
+  pub same : number_of text ≡ Some (digits_of (3 - i) d.value d.took (drop (i + 1) text))
 
 -- one digit after another
 digits_at : (s : List ℕ) (value took i : ℕ) → i < 3 → i < length s
@@ -58,20 +58,16 @@ pow_small (suc zero) h = omega arith
 pow_small (suc (suc zero)) h = omega arith
 pow_small (suc (suc (suc n))) h = absurd (omega arith)
 
-pub taken_below : {first : ℕ} {rest : List ℕ} {d : Number} {i : ℕ} → Taken first rest d i → i < 3 → d.value < 1000
-taken_below {i = i} k h = omega (arith, k.small, pow_small i h)
-
 -- over the bytes behind the first, of which the loop sees at most three
-module _ {text rest : List ℕ} {first m : ℕ} {d : Number} {i : ℕ} (e : text ≡ first ∷ rest) (z : is_digit first ≡ true) (n : first ≡ 48 → ⊥)
-    (s : m ≡ min (length rest) 3) (k : Taken first (drop 1 text) d i) where
-  same : number_of text ≡ Some (digits_of (3 - i) d.value d.took (drop i rest))
-  same = rw (e, z, ne_eqb first 48 n) (ap Some (rw e at k.same))
+module _ {text rest : List ℕ} {first m : ℕ} {d : Number} {i : ℕ} (e : text ≡ first ∷ rest) (s : m ≡ min (length rest) 3) (k : Taken text d i) where
+  behind : drop (i + 1) text ≡ drop i rest
+  behind = rw (e, add-one)
 
   -- the digits end, or three were taken
   pub taken_end : length (take m rest) ≤ i → Some d ≡ number_of text
   taken_end h =
       let a = length-take m rest in
-      sym (same ∙ ap Some (test (leb (length rest) i)
+      sym (k.same ∙ ap (λ l. Some (digits_of (3 - i) d.value d.took l)) behind ∙ ap Some (test (leb (length rest) i)
       (λ l. rw (drop_of_length-le rest (leb-true (length rest) i l)) (digits_end (3 - i) d.value d.took))
       (λ l. let x : 3 - i ≡ 0 = omega (arith, leb-false (length rest) i l) in rw x)))
 
@@ -82,19 +78,23 @@ module _ {text rest : List ℕ} {first m : ℕ} {d : Number} {i : ℕ} (e : text
     pub taken_stop : is_digit (get_or (take m rest) i 0) ≡ false → Some d ≡ number_of text
     taken_stop f =
         let (a, b) = room in
-        sym (same ∙ ap Some (digits_at rest d.value d.took i (omega arith) b ∙ rw (← get_or-take m rest i 0 a, f)))
+        sym (k.same ∙ ap (λ l. Some (digits_of (3 - i) d.value d.took l)) behind
+        ∙ ap Some (digits_at rest d.value d.took i (omega arith) b ∙ rw (← get_or-take m rest i 0 a, f)))
 
     pub taken_step : is_digit (get_or (take m rest) i 0) ≡ true
-        → Taken first (drop 1 text) (number (d.value * 10 + (get_or (take m rest) i 0 - 48)) (d.took + 1)) (i + 1)
+        → Taken text (number (d.value * 10 + (get_or (take m rest) i 0 - 48)) (d.took + 1)) (i + 1)
     taken_step f =
         let (a, b) = room in
         let g = get_or-take m rest i 0 a in
-        rw (e, g) (record {
+        let z : is_digit (get_or rest i 0) ≡ true = rw g at f in
+        let n : length text ≡ suc (length rest) = ap length e in
+        let t : drop (i + 1 + 1) text ≡ drop (i + 1) rest = rw (e, add-one) in
+        rw g (record {
           three = omega arith;
           within = omega arith;
-          small = let p : 10 ^ (i + 1 + 1) ≡ 10 * 10 ^ (i + 1) = rw (add-one (i + 1)) (omega arith) in omega (arith, k.small, digit_high (get_or rest i 0) (rw g at f));
+          small = let p : 10 ^ (i + 1 + 1) ≡ 10 * 10 ^ (i + 1) = rw (add-one (i + 1)) (omega arith) in omega (arith, k.small, digit_high (get_or rest i 0) z);
           took = let t = k.took in omega arith;
-          same = rw e at k.same ∙ digits_at rest d.value d.took i (omega arith) b ∙ rw (rw g at f);
+          same = rw t (k.same ∙ ap (λ l. Some (digits_of (3 - i) d.value d.took l)) behind ∙ rw (digits_at rest d.value d.took i (omega arith) b, z));
         })
 
 -- a line's end, one byte after another
@@ -102,6 +102,3 @@ pub end_grown : (b at : ℕ) (x : Lines) → end_of at (grown b x) ≡ end_of (a
 end_grown b at none = refl
 end_grown b at (cut l) = refl
 end_grown b at (line l rest) = let e : at + suc (length l) ≡ at + 1 + length l = omega arith in ap Some e
-
-pub end_on : (s : List ℕ) (i : ℕ) → i < length s → (get_or s i 0 ≡ LF → ⊥) → end_of i (lines_of (drop i s)) ≡ end_of (i + 1) (lines_of (drop (i + 1) s))
-end_on s i h e = rw (drop-cons s i 0 h, ne_eqb (get_or s i 0) LF e, end_grown (get_or s i 0) i (lines_of (drop (suc i) s)), add-one)

@@ -13,7 +13,7 @@ use Rattle.table.specs.Model.{limit, top_code, counted_in, in_limits, first_abov
 use Rattle.table.proofs.Model.{limits}
 use Rattle.card.specs.Text.{LF, comma, rig_key, equations_key, unknowns_key, occurs_key, end_key, dec, Lines, none, line, lines_of}
 use Rattle.std.specs.List.{list_all}
-use Rattle.card.specs.Entry.{name_byte, entry_of}
+use Rattle.card.specs.Entry.{occurrence, name_byte, entry_of}
 use Rattle.card.specs.Card.{good, rig_of, count_said, count_of, in_range, not_after, cell, collected, list_of, headed, from_rig, judged, line_of, occurs_lines}
 use Rattle.card.specs.Card.{occurrences, card_of}
 use Rattle.std.specs.Prelude.{Some, Ok}
@@ -50,7 +50,7 @@ few (x ∷ t) = let l = few t in test (eqb x 0) (λ z. rw z (omega arith)) (λ z
 -- ---- the occurs lines and the end line
 
 module _ (name : List ℕ) (E U : ℕ) where
-  collected_occurs : (n e' u' at : ℕ) (t l : List ℕ) (rest : Lines) {e u k : ℕ} → entry_of l ≡ Some (Occurs e u k) → in_range E U e u k ≡ true → not_after e u e' u' ≡ false
+  collected_occurs : (n e' u' at : ℕ) (t l : List ℕ) (rest : Lines) {e u k : ℕ} → entry_of l ≡ Some (Occurs (occurrence e u k)) → in_range E U e u k ≡ true → not_after e u e' u' ≡ false
       → collected name E U n e' u' t at (line l rest) ≡ collected name E U (n + 1) e u (set t (cell U e u) (k + 1)) (at + length l + 1) rest
   collected_occurs n e' u' at t l rest p q r = rw (p, q, r)
 

@@ -59,8 +59,10 @@ pub data Said : Type 0 where
 -- such a line at a place: refused 11, 14 or 15, or what it says
 abbrev pub turn_said : ℕ → ℕ → ℕ → ℕ → ℕ → ℕ → Option Entry → Result Said Refused
 turn_said E U e' u' at next None = Err (refused_at Shape at)
-turn_said E U e' u' at next (Some (Occurs e u k)) =
-    pick (in_range E U e u k) (pick (not_after e u e' u') (Err (refused_at NotAfter at)) (Ok (occurs e u (k + 1) next))) (Err (refused_at OutOfRange at))
+turn_said E U e' u' at next (Some (Occurs o)) =
+    pick (in_range E U o.equation o.unknown o.order)
+    (pick (not_after o.equation o.unknown e' u') (Err (refused_at NotAfter at)) (Ok (occurs o.equation o.unknown (o.order + 1) next)))
+    (Err (refused_at OutOfRange at))
 turn_said E U e' u' at next (Some (End n)) = Ok (ends n next)
 
 abbrev pub turn_of : ℕ → ℕ → ℕ → ℕ → ℕ → Lines → Result Said Refused

@@ -1,11 +1,13 @@
 -- Document 01, "The card": what one line says.
--- A type that the code declares, and its cases:
---   Entry  a line after the unknowns line. `Occurs e u k`: `occurs=e,u,k`; `End n`: `end=n`
+-- Types that the code declares:
+--   Occurrence  the numbers of an occurs line: equation, unknown and order
+--   Entry       a line after the unknowns line. `Occurs (occurrence e u k)`: `occurs=e,u,k`; `End n`: `end=n`
 use Rattle.std.specs.Prelude.{Option, None, Some, Bool, ◌&&◌, ◌||◌, List, [], ◌∷◌, ℕ, ◌+◌, leb, eqb, length, drop}
 use Rattle.std.specs.List.{list_all}
 use Rattle.laws.specs.Tab.{pick}
 use Rattle.card.specs.Text.{comma, occurs_key, end_key, begins, is_letter, is_digit, number, number_of}
 use Rattle.card.specs.declared.text.Number.{Number}
+use Rattle.card.specs.declared.entry.Occurrence.{Occurrence}
 use Rattle.card.specs.declared.entry.Entry.{Entry}
 use Rattle.card.specs.declared.entry.Entry.TheVariants.{Occurs, End}
 
@@ -36,10 +38,13 @@ with_comma text (Some d) = pick (begins (comma ∷ []) (drop d.took text)) (Some
 abbrev pub comma_of : List ℕ → Option Number
 comma_of text = with_comma text (number_of text)
 
+abbrev pub occurrence : ℕ → ℕ → ℕ → Occurrence
+occurrence e u k = record { equation = e; unknown = u; order = k }
+
 -- `e,u,k`: e and a comma, u and a comma, k and nothing behind it
 abbrev pub order_of : ℕ → ℕ → Option ℕ → Option Entry
 order_of e u None = None
-order_of e u (Some k) = Some (Occurs e u k)
+order_of e u (Some k) = Some (Occurs (occurrence e u k))
 
 abbrev pub unknown_of : ℕ → List ℕ → Option Number → Option Entry
 unknown_of e text None = None

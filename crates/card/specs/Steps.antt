@@ -3,10 +3,11 @@
 --   Pair  the numbers of an equation and an unknown
 --   Turn  a line after the unknowns line. `Next pair code next`: an occurs line with its pair and code; `Last n next`: the end line with its number;
 --         the next line starts at `next`
---   Head  what the first three lines say: where the rig line's LF stands, E, U, and where the next line starts
-use Rattle.std.specs.Prelude.{◌≡◌, true, Option, None, Some, Result, Ok, Err, List, ℕ, ◌+◌, ◌*◌, ◌≤◌, eqb, ltb, length, take, drop}
+--   Limits  E and U, within the limits
+--   Head    what the first three lines say: where the rig line's LF stands, E and U, and where the next line starts
+use Rattle.std.specs.Prelude.{◌≡◌, Option, None, Some, Result, Ok, Err, List, ℕ, ◌+◌, ◌*◌, ◌≤◌, eqb, ltb, length, take, drop}
 use Rattle.laws.specs.Tab.{pick}
-use Rattle.table.specs.Model.{limit, in_limits}
+use Rattle.table.specs.Model.{limit}
 use Rattle.table.specs.Number.{equation_number, unknown_number, or_zero}
 use Rattle.card.specs.Text.{rig_key, Lines, none, cut, line, lines_of}
 use Rattle.card.specs.Refusal.{refused_at}
@@ -14,7 +15,7 @@ use Rattle.card.specs.Card.{Judged, refused, good, judged, headed, Said, occurs,
 use Rattle.card.specs.declared.refusal.Refusal.TheVariants.{Shape, EndNumber}
 use Rattle.card.specs.declared.refusal.Refused.{Refused}
 use Rattle.card.specs.declared.Size.{Size}
-use Rattle.card.specs.declared.judge.Head.{Head}
+use Rattle.card.specs.declared.head.Head.{Head}
 use Rattle.card.specs.declared.list.Pair.{Pair}
 use Rattle.card.specs.declared.list.Turn.{Turn}
 use Rattle.card.specs.declared.list.Turn.TheVariants.{Next, Last}
@@ -28,12 +29,12 @@ end_of at (line l rest) = Some (at + length l)
 -- what is left to judge behind the unknowns line
 abbrev pub from_head : List ℕ → Result Head Refused → Judged
 from_head s (Err r) = refused r
-from_head s (Ok h) = list_of (drop (length rig_key) (take h.name_end s)) h.equations h.unknowns h.next (lines_of (drop h.next s))
+from_head s (Ok h) = list_of (drop (length rig_key) (take h.name_end s)) h.limits.equations h.limits.unknowns h.next (lines_of (drop h.next s))
 
--- the limits of what was read
+-- the places of what was read
 abbrev pub HeadFits : List ℕ → Result Head Refused → Type 0
 HeadFits s (Err r) = Unit {0}
-HeadFits s (Ok h) = (in_limits h.equations h.unknowns ≡ true) × (length rig_key ≤ h.name_end) × (h.name_end ≤ length s) × (h.next ≤ length s)
+HeadFits s (Ok h) = (length rig_key ≤ h.name_end) × (h.name_end ≤ length s) × (h.next ≤ length s)
 
 pub record HeadRead (s : List ℕ) (r : Result Head Refused) : Type 0 where
   pub same : judged s ≡ from_head s r

@@ -4,14 +4,18 @@ ghost use Rattle.card.specs.Entry.{name_byte, good_name, whole_of, value_of, com
 
 use crate::text::{Number, front_number};
 
+// The numbers of an occurs line.
+#[derive(Clone, Copy)]
+pub struct Occurrence {
+    pub equation: usize,
+    pub unknown: usize,
+    pub order: usize,
+}
+
 // A line after the unknowns line.
 #[derive(Clone, Copy)]
 pub enum Entry {
-    Occurs {
-        equation: usize,
-        unknown: usize,
-        order: usize,
-    },
+    Occurs(Occurrence),
     End(usize),
 }
 
@@ -74,11 +78,11 @@ fn triple(text: &[u8]) -> Option<Entry>
     let behind = &text[equation.took..];
     let unknown = with_comma(behind)?;
     let order = whole(&behind[unknown.took..])?;
-    Some(Entry::Occurs {
+    Some(Entry::Occurs(Occurrence {
         equation: equation.value,
         unknown: unknown.value,
         order,
-    })
+    }))
 }
 
 // A line beginning `end=` is the end line, any other is due to be an occurs line.

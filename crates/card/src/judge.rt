@@ -5,18 +5,10 @@ ghost use Rattle.card.specs.Card.{rig_of, count_of};
 ghost use Rattle.card.specs.Steps.{HeadRead, CountsRead};
 
 use crate::entry::{good_name, line_value};
+use crate::head::{Head, Limits};
 use crate::refusal::{Refusal, Refused};
 use crate::text::line_at;
 use table::judge::counted;
-
-// What the first three lines say, and where the next line starts.
-#[derive(Clone, Copy)]
-pub struct Head {
-    pub name_end: usize,
-    pub equations: usize,
-    pub unknowns: usize,
-    pub next: usize,
-}
 
 // Where the rig line's LF stands.
 fn read_rig(card: &[u8]) -> Result<usize, Refused>
@@ -54,10 +46,13 @@ fn read_counts(card: &[u8], end: usize) -> Result<Head, Refused>
 {
     let (equations, second) = read_count(card, end + 1, b"equations=")?;
     let (unknowns, next) = read_count(card, second, b"unknowns=")?;
-    Ok(Head {
-        name_end: end,
+    let limits = Limits {
         equations,
         unknowns,
+    };
+    Ok(Head {
+        name_end: end,
+        limits,
         next,
     })
 }

@@ -2,6 +2,7 @@
 #![tactic(auto)]
 
 mod entry;
+mod head;
 mod judge;
 mod lay;
 mod list;
@@ -9,12 +10,12 @@ pub mod put;
 mod refusal;
 mod text;
 
-ghost use Rattle.std.specs.Prelude.{◌≡◌, true, ◌≤◌, length};
-ghost use Rattle.table.specs.Model.{in_limits};
+ghost use Rattle.std.specs.Prelude.{◌≤◌, length};
 ghost use Rattle.card.specs.Promise.{WriteGood, ReadDone, NamePart, WriteDone};
 ghost use Rattle.card.specs.Steps.{RestRead};
 
 use crate::entry::good_name;
+use crate::head::Limits;
 use crate::judge::read_head;
 use crate::lay::put_card;
 use crate::list::read_list;
@@ -29,25 +30,19 @@ pub struct Size {
 }
 
 // The lines behind the unknowns line, and the table written only when nothing is refused.
-fn read_rest(
-    card: &[u8],
-    from: usize,
-    equations: usize,
-    unknowns: usize,
-    table: &mut [u8],
-) -> Result<Size, Refused>
-    requires { (in_limits equations unknowns ≡ true) × (from ≤ length card.now) }
-    ensures { RestRead card.now equations unknowns from table.old result table.new }
+fn read_rest(card: &[u8], from: usize, limits: Limits, table: &mut [u8]) -> Result<Size, Refused>
+    requires { from ≤ length card.now }
+    ensures { RestRead card.now limits.equations limits.unknowns from table.old result table.new }
 {
-    let codes = read_list(card, from, equations, unknowns)?;
-    let size = equations * unknowns;
+    let codes = read_list(card, from, limits)?;
+    let size = limits.equations * limits.unknowns;
     if table.len() < size {
         return Err(Refusal::TableRoom.at(0));
     }
     table[..size].copy_from_slice(&codes[..size]);
     Ok(Size {
-        equations,
-        unknowns,
+        equations: limits.equations,
+        unknowns: limits.unknowns,
     })
 }
 
@@ -56,7 +51,7 @@ pub fn read(card: &[u8], table: &mut [u8]) -> Result<Size, Refused>
     ensures { ReadDone card.now table.old result table.new }
 {
     let head = read_head(card)?;
-    read_rest(card, head.next, head.equations, head.unknowns, table)
+    read_rest(card, head.next, head.limits, table)
 }
 
 // The part of the card that holds the name; where the card is refused, the part of length 0 at its start.
@@ -66,7 +61,7 @@ pub fn name_of(card: &[u8]) -> &[u8]
     let Ok(head) = read_head(card) else {
         return &card[..0];
     };
-    if read_list(card, head.next, head.equations, head.unknowns).is_err() {
+    if read_list(card, head.next, head.limits).is_err() {
         return &card[..0];
     }
     &card[4..head.name_end]

@@ -1,13 +1,13 @@
 // The occurs lines and the end line.
 ghost use Rattle.std.specs.Prelude.{◌≡◌, true, ◌≤◌, length, drop};
-ghost use Rattle.table.specs.Model.{in_limits};
 ghost use Rattle.card.specs.Text.{lines_of};
 ghost use Rattle.table.specs.Number.{equation_number, unknown_number};
 ghost use Rattle.card.specs.declared.entry.Entry.TheVariants.{Occurs};
 ghost use Rattle.card.specs.Card.{in_range, not_after, turn_said, turn_of};
 ghost use Rattle.card.specs.Steps.{last_equation, last_unknown, said_in, end_said, ListRead};
 
-use crate::entry::{Entry, line_entry};
+use crate::entry::{Entry, Occurrence, line_entry};
+use crate::head::Limits;
 use crate::refusal::{Refusal, Refused};
 use crate::text::line_at;
 use table::CELLS;
@@ -27,16 +27,14 @@ pub enum Turn {
     Last { count: usize, next: usize },
 }
 
-fn in_range(
-    equations: usize,
-    unknowns: usize,
-    equation: usize,
-    unknown: usize,
-    order: usize,
-) -> bool
-    ensures { result ≡ in_range equations unknowns equation unknown order }
+fn in_range(limits: Limits, it: Occurrence) -> bool
+    ensures { result ≡ in_range limits.equations limits.unknowns it.equation it.unknown it.order }
 {
-    1 <= equation && equation <= equations && 1 <= unknown && unknown <= unknowns && order <= 3
+    1 <= it.equation
+        && it.equation <= limits.equations
+        && 1 <= it.unknown
+        && it.unknown <= limits.unknowns
+        && it.order <= 3
 }
 
 // The pair equals or precedes the one before.
@@ -46,58 +44,42 @@ fn not_after(pair: Pair, last: Option<Pair>) -> bool
     last.is_some_and(|last| pair <= last)
 }
 
-// What an occurs line `e,u,k` comes to: 14 before 15.
+// What an occurs line comes to: 14 before 15.
 fn read_pair(
-    equations: usize,
-    unknowns: usize,
+    limits: Limits,
     last: Option<Pair>,
     at: usize,
     next: usize,
-    e: usize,
-    u: usize,
-    k: usize,
+    it: Occurrence,
 ) -> Result<Turn, Refused>
-    requires { in_limits equations unknowns ≡ true }
-    ensures { said_in result ≡ turn_said equations unknowns (last_equation last) (last_unknown last) at next (Some (Occurs e u k)) }
+    ensures { said_in result ≡ turn_said limits.equations limits.unknowns (last_equation last) (last_unknown last) at next (Some (Occurs it)) }
 {
-    if !in_range(equations, unknowns, e, u, k) {
+    if !in_range(limits, it) {
         return Err(Refusal::OutOfRange.at(at));
     }
-    let equation = Equation::at(e - 1);
-    let unknown = Unknown::at(u - 1);
-    let pair = Pair { equation, unknown };
+    let pair = Pair {
+        equation: Equation::at(it.equation - 1),
+        unknown: Unknown::at(it.unknown - 1),
+    };
     if not_after(pair, last) {
         return Err(Refusal::NotAfter.at(at));
     }
     Ok(Turn::Next {
         pair,
-        code: (k + 1) as u8,
+        code: (it.order + 1) as u8,
         next,
     })
 }
 
 // The line at a place, behind a line of the pair `last`.
-fn read_turn(
-    card: &[u8],
-    at: usize,
-    equations: usize,
-    unknowns: usize,
-    last: Option<Pair>,
-) -> Result<Turn, Refused>
-    requires { in_limits equations unknowns ≡ true }
-    ensures { said_in result ≡ turn_of equations unknowns (last_equation last) (last_unknown last) at (lines_of (drop at card.now)) }
+fn read_turn(card: &[u8], at: usize, limits: Limits, last: Option<Pair>) -> Result<Turn, Refused>
+    ensures { said_in result ≡ turn_of limits.equations limits.unknowns (last_equation last) (last_unknown last) at (lines_of (drop at card.now)) }
 {
     let end = line_at(card, at).ok_or(Refusal::Shape.at(at))?;
     let next = end + 1;
     match line_entry(&card[at..end]).ok_or(Refusal::Shape.at(at))? {
         Entry::End(count) => Ok(Turn::Last { count, next }),
-        Entry::Occurs {
-            equation,
-            unknown,
-            order,
-        } => read_pair(
-            equations, unknowns, last, at, next, equation, unknown, order,
-        ),
+        Entry::Occurs(it) => read_pair(limits, last, at, next, it),
     }
 }
 
@@ -115,27 +97,22 @@ fn read_end(card: &[u8], said: usize, count: usize, at: usize, next: usize) -> R
 }
 
 // The occurs lines and the end line, from a place on: the table collected from them.
-pub fn read_list(
-    card: &[u8],
-    from: usize,
-    equations: usize,
-    unknowns: usize,
-) -> Result<[u8; CELLS], Refused>
-    requires { (in_limits equations unknowns ≡ true) × (from ≤ length card.now) }
-    ensures { ListRead card.now equations unknowns from result }
+pub fn read_list(card: &[u8], from: usize, limits: Limits) -> Result<[u8; CELLS], Refused>
+    requires { from ≤ length card.now }
+    ensures { ListRead card.now limits.equations limits.unknowns from result }
 {
     let mut table = [0u8; CELLS];
     let mut last = None;
     let mut count = 0;
     let mut at = from;
     loop {
-        match read_turn(card, at, equations, unknowns, last)? {
+        match read_turn(card, at, limits, last)? {
             Turn::Last { count: said, next } => {
                 read_end(card, said, count, at, next)?;
                 return Ok(table);
             }
             Turn::Next { pair, code, next } => {
-                let cell = pair.equation.place() * unknowns + pair.unknown.place();
+                let cell = pair.equation.place() * limits.unknowns + pair.unknown.place();
                 table[cell] = code;
                 last = Some(pair);
                 count += 1;

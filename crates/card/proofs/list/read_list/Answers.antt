@@ -15,27 +15,27 @@ use Rattle.card.proofs.list.read_list.Goals.{In-Next, In-Last}
 
 -- the line that was taken
 turned : (c : In-Next)
-    → turn_of c.args.equations c.args.unknowns (last_equation c.loop-said.last) (last_unknown c.loop-said.last) c.loop-said.at
+    → turn_of c.args.limits.equations c.args.limits.unknowns (last_equation c.loop-said.last) (last_unknown c.loop-said.last) c.loop-said.at
     (lines_of (drop c.loop-said.at c.args.card.now))
     ≡ Ok (occurs (equation_number c.in-Next.pair.equation) (unknown_number c.in-Next.pair.unknown) c.in-Next.code c.in-Next.next)
 turned c = sym c.read_turn.ensures ∙ ap said_in (c.in_ok-said.was ∙ ap Ok c.in-Next.is)
 
 took : (c : In-Next)
-    → Taking c.args.equations c.args.unknowns (last_equation c.loop-said.last) (last_unknown c.loop-said.last) (equation_number c.in-Next.pair.equation)
+    → Taking c.args.limits.equations c.args.limits.unknowns (last_equation c.loop-said.last) (last_unknown c.loop-said.last) (equation_number c.in-Next.pair.equation)
     (unknown_number c.in-Next.pair.unknown) c.in-Next.code
     × Onward c.args.card.now c.loop-said.at c.in-Next.next
 took c =
-    turn_next c.args.card.now c.args.equations c.args.unknowns (last_equation c.loop-said.last) (last_unknown c.loop-said.last) c.loop-said.at
+    turn_next c.args.card.now c.args.limits.equations c.args.limits.unknowns (last_equation c.loop-said.last) (last_unknown c.loop-said.last) c.loop-said.at
     (turned c)
 
 last : (c : In-Last)
-    → turn_of c.args.equations c.args.unknowns (last_equation c.loop-said.last) (last_unknown c.loop-said.last) c.loop-said.at
+    → turn_of c.args.limits.equations c.args.limits.unknowns (last_equation c.loop-said.last) (last_unknown c.loop-said.last) c.loop-said.at
     (lines_of (drop c.loop-said.at c.args.card.now))
     ≡ Ok (ends c.in-Last.said c.in-Last.next)
 last c = sym c.read_turn.ensures ∙ ap said_in (c.in_ok-said.was ∙ ap Ok c.in-Last.is)
 
 pub loop-said-init : goal.loop-said-init
-loop-said-init c = collecting_start c.args.card.now c.args.equations c.args.unknowns c.args.from c.requires.0 c.requires.1
+loop-said-init c = collecting_start c.args.card.now c.args.limits.equations c.args.limits.unknowns c.args.from c.args.limits.within c.requires
 
 pub returns-in_err-read_end-in-Last : goal.returns-in_err-read_end-in-Last
 returns-in_err-read_end-in-Last c =
@@ -50,7 +50,7 @@ returns-in-Last c =
 
 pub bounds-table-cell : goal.bounds-table-cell
 bounds-table-cell c =
-    cell_fits {U = c.args.unknowns} c.requires.0 (took (goal.at.bounds-table-cell c).In-Next).0.ranged c.place.ensures c.place-in-Next.ensures
+    cell_fits {U = c.args.limits.unknowns} c.args.limits.within (took (goal.at.bounds-table-cell c).In-Next).0.ranged c.place.ensures c.place-in-Next.ensures
 
 pub loop-said-smaller : goal.loop-said-smaller
 loop-said-smaller c = let w = (took (goal.at.loop-said-smaller c).In-Next).1 in omega (arith, w.more, w.room)

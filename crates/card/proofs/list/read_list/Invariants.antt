@@ -6,7 +6,7 @@ use Rattle.card.proofs.ListLaws.{Collecting}
 use Rattle.card.proofs.list.read_list.Given as goal
 
 abbrev pub invariant-loop-said : goal.invariant-loop-said
-invariant-loop-said l = Collecting l.card l.equations l.unknowns l.from l.table (last_equation l.last) (last_unknown l.last) l.count l.at
+invariant-loop-said l = Collecting l.card l.limits.equations l.limits.unknowns l.from l.table (last_equation l.last) (last_unknown l.last) l.count l.at
 
 abbrev pub decreases-loop-said : goal.decreases-loop-said
 decreases-loop-said l = length l.card - l.at

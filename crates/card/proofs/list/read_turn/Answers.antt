@@ -18,12 +18,12 @@ there c = found c.args.card.now c.args.at c.in_ok-end.end (sym c.line_at.ensures
 
 -- the line comes to what it says
 turned : (c : After-line_entry) {v : Option Entry} → c.line_entry.result ≡ v
-    → turn_said c.args.equations c.args.unknowns (last_equation c.args.last) (last_unknown c.args.last) c.args.at (c.in_ok-end.end + 1) v
-    ≡ turn_of c.args.equations c.args.unknowns (last_equation c.args.last) (last_unknown c.args.last) c.args.at (lines_of (drop c.args.at c.args.card.now))
+    → turn_said c.args.limits.equations c.args.limits.unknowns (last_equation c.args.last) (last_unknown c.args.last) c.args.at (c.in_ok-end.end + 1) v
+    ≡ turn_of c.args.limits.equations c.args.limits.unknowns (last_equation c.args.last) (last_unknown c.args.last) c.args.at (lines_of (drop c.args.at c.args.card.now))
 turned c n =
     let a = c.args in
-    ap (turn_said a.equations a.unknowns (last_equation a.last) (last_unknown a.last) a.at (c.in_ok-end.end + 1)) (sym n ∙ c.line_entry.ensures)
-    ∙ turn_found (there (goal.at.After-line_entry c).In_ok-end) a.equations a.unknowns (last_equation a.last) (last_unknown a.last)
+    ap (turn_said a.limits.equations a.limits.unknowns (last_equation a.last) (last_unknown a.last) a.at (c.in_ok-end.end + 1)) (sym n ∙ c.line_entry.ensures)
+    ∙ turn_found (there (goal.at.After-line_entry c).In_ok-end) a.limits.equations a.limits.unknowns (last_equation a.last) (last_unknown a.last)
 
 pub overflow_add-next : goal.overflow_add-next
 overflow_add-next c = omega (arith, (there c).room)

@@ -1,27 +1,18 @@
 -- `card::text::front_number` meets its contract: the loop keeps `Taken`, that the number is what is read so far with the digits to come.
-use mathlib.Core.Path.{◌≡◌, sym, ◌∙◌}
-use mathlib.Core.List.{◌∷◌}
+use mathlib.Core.Path.{sym, ◌∙◌}
 use Rattle.card.proofs.TextLaws.{taken_stop, taken_step, taken_end}
 use Rattle.card.proofs.text.front_number.Goals as goal
-use Rattle.card.proofs.text.front_number.Goals.{In_ok-first}
-
-text_is : (c : In_ok-first) → c.args.text.now ≡ c.in_ok-first.field-0-0.now ∷ c.in_ok-first.rest.now
-text_is c = c.in_ok-first.ensures.cases.0
 
 pub returns-then-not-is_ascii_digit-2 : goal.returns-then-not-is_ascii_digit-2
 returns-then-not-is_ascii_digit-2 c =
-    taken_stop (text_is (goal.at.returns-then-not-is_ascii_digit-2 c).In_ok-first) (sym c.is_ascii_digit.ensures.value ∙ c.if-not-is_ascii_digit.false) c.if-first-eq48.false
-    c.min.ensures c.loop-byte.invariant
-    c.loop-byte-test.true (sym c.is_ascii_digit-in-loop-byte.ensures.value ∙ c.if-not-is_ascii_digit-2.true)
+    taken_stop c.in_ok-first.ensures.cases.0 c.min.ensures c.loop-byte.invariant c.loop-byte-test.true
+    (sym c.is_ascii_digit-in-loop-byte.ensures.value ∙ c.if-not-is_ascii_digit-2.true)
 
 pub loop-byte-preserved : goal.loop-byte-preserved
 loop-byte-preserved c =
     rw c.from-in-loop-byte.ensures
-    (taken_step (text_is (goal.at.loop-byte-preserved c).In_ok-first) (sym c.is_ascii_digit.ensures.value ∙ c.if-not-is_ascii_digit.false) c.if-first-eq48.false
-    c.min.ensures c.loop-byte.invariant
-    c.loop-byte-test.true (sym c.is_ascii_digit-in-loop-byte.ensures.value ∙ c.if-not-is_ascii_digit-2.false))
+    (taken_step c.in_ok-first.ensures.cases.0 c.min.ensures c.loop-byte.invariant c.loop-byte-test.true
+    (sym c.is_ascii_digit-in-loop-byte.ensures.value ∙ c.if-not-is_ascii_digit-2.false))
 
 pub returns : goal.returns
-returns c =
-    taken_end (text_is (goal.at.returns c).In_ok-first) (sym c.is_ascii_digit.ensures.value ∙ c.if-not-is_ascii_digit.false) c.if-first-eq48.false
-    c.min.ensures c.loop-byte.invariant c.loop-byte-test.false
+returns c = taken_end c.in_ok-first.ensures.cases.0 c.min.ensures c.loop-byte.invariant c.loop-byte-test.false

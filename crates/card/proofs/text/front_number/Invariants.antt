@@ -1,7 +1,6 @@
 -- `card::text::front_number` meets its contract: the loop keeps `Taken`, that the number is what is read so far with the digits to come.
-use lib.ListN.{drop}
 use Rattle.card.proofs.TextLaws.{Taken}
 use Rattle.card.proofs.text.front_number.Given as goal
 
 abbrev pub invariant-loop-byte : goal.invariant-loop-byte
-invariant-loop-byte l = Taken l.first (drop 1 l.text) l.number l.byte-index
+invariant-loop-byte l = Taken l.text l.number l.byte-index
