@@ -6,8 +6,9 @@ use native.Mathlib.Numerals.{add-one}
 use Prim.Native.Nat.{ℕ, zero, suc, ◌+◌, ◌-◌, ◌<◌, ◌≤◌}
 use native.Mathlib.Omega.{arith}
 use lib.Dec.{eqb, ltb}
-use lib.ListN.{length, get_or, take, drop, set, replicate, length-set, length-append, length-map, length-drop, get_or-append, get_or-eq_default}
-use lib.Seq.{get_or-set_same, get_or-set_other, get_or-append_seam, length-take-le}
+use Rattle.laws.specs.Marks.{marked}
+use lib.ListN.{take, length, get_or, drop, set, replicate, length-set, length-append, length-map, length-drop, get_or-append, get_or-eq_default}
+use lib.Seq.{get_or-take, length-take-le, get_or-set_same, get_or-set_other, get_or-append_seam}
 use Rattle.std.proofs.lemmas.List.{get_or-drop, map-id}
 use Rattle.std.proofs.lemmas.Simd.{map-map}
 use Rattle.std.proofs.lemmas.List.FromFn.{length-enumerate_from, get_or-enumerate_from, filter_of_map_range_with_len_more}
@@ -54,11 +55,6 @@ strip_over l h = is_tab (l ++ drop (length l) (strip [])) 0 limit (λ i. get_or 
         ∙ get_or_tab limit (λ i. unused) (length l + (k - length l)) 0 (omega (arith, tests))
         ∙ sym (get_or-eq_default l unused (omega (arith, tests))))
 
-pub strip_front : (n : ℕ) (l : List ℕ) → length l ≡ limit → n ≤ limit → take n l ++ drop n (strip []) ≡ strip (take n l)
-strip_front n l e h =
-    let m : length (take n l) ≡ n = length-take-le n l (omega arith) in
-    ap (λ k. take n l ++ drop k (strip [])) (sym m) ∙ strip_over (take n l) (omega arith)
-
 -- the members below n are what a filter leaves of the numbers below n
 filter_more : (n : ℕ) (p : ℕ → Bool) → filter p (range_with_len 0 (suc n)) ≡ filter p (range_with_len 0 n) ++ cond (p n) (n ∷ []) []
 filter_more n p = ap (λ m. filter p (range_with_len 0 m)) (sym (add-one n)) ∙ ap (filter p) (sym (map-id (range_with_len 0 (n + 1))))
@@ -72,6 +68,21 @@ members_filter (suc n) p =
     test (p n)
     (λ t. more true t ∙ ap (λ l. l ++ n ∷ []) (members_filter n p) ∙ sym (members_yes n p t))
     (λ f. more false f ∙ append-nil l ∙ members_filter n p ∙ sym (members_not n p f))
+
+-- and those marked in the front of a list are those marked in the list
+front_marked : (n : ℕ) (l : List Bool) (m : ℕ) → m ≤ n → members m (marked (take n l)) ≡ members m (marked l)
+front_marked n l zero h = members_zero (marked (take n l)) ∙ sym (members_zero (marked l))
+front_marked n l (suc m) h =
+    let e : marked (take n l) m ≡ marked l m = get_or-take n l m false (omega arith) in
+    let r = front_marked n l m (omega arith) in
+    test (marked l m)
+    (λ t. members_yes m (marked (take n l)) (e ∙ t) ∙ ap (λ k. k ++ m ∷ []) r ∙ sym (members_yes m (marked l) t))
+    (λ f. members_not m (marked (take n l)) (e ∙ f) ∙ r ∙ sym (members_not m (marked l) f))
+
+pub front_listed : (n : ℕ) (l : List Bool) {s : List ℕ} → n ≤ length l → s ≡ strip (map suc (members (length (take n l)) (marked (take n l))))
+    → s ≡ strip (map suc (members n (marked l)))
+front_listed n l h e = e ∙ ap (λ k. strip (map suc (members k (marked (take n l))))) (length-take-le n l h)
+    ∙ ap (λ k. strip (map suc k)) (front_marked n l n (omega arith))
 
 -- the members below n, each with its place in their list
 abbrev pub numbered : ℕ → (ℕ → Bool) → List (ℕ × ℕ)

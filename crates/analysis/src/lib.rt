@@ -27,9 +27,11 @@ pub extern "C" fn mudorder_analyse(
 ) -> u64
     ensures { Reply equations unknowns table.now answer.old result answer.new }
 {
-    if let Err(refused) = first_refusal(equations, unknowns, table, answer.len()) {
-        return pack(refused.number(), refused.place(), 0, 0, 0, 0);
+    match first_refusal(equations, unknowns, table, answer.len()) {
+        Ok(()) => {
+            let rows = filled(equations, unknowns, table);
+            verdict(&rows, equations, unknowns, answer)
+        }
+        Err(refused) => pack(refused.number(), refused.place(), 0, 0, 0, 0),
     }
-    let rows = filled(equations, unknowns, table);
-    verdict(&rows, equations, unknowns, answer)
 }

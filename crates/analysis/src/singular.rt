@@ -14,8 +14,8 @@ pub fn write(answer: &mut [u8], equations: usize, unknowns: usize, surplus: Mark
     requires { (answer_bytes ≤ length answer.old) × (equations ≤ limit) × (unknowns ≤ limit) }
     ensures { answer.new ≡ strips (map suc (members equations (marked surplus))) (map suc (members unknowns (marked unfixed))) [] [] [] ++ drop answer_bytes answer.old }
 {
-    listed(&mut answer[0..LIMIT], equations, surplus);
-    listed(&mut answer[LIMIT..2 * LIMIT], unknowns, unfixed);
+    listed(&mut answer[0..LIMIT], &surplus[..equations]);
+    listed(&mut answer[LIMIT..2 * LIMIT], &unfixed[..unknowns]);
     unused(&mut answer[2 * LIMIT..3 * LIMIT]);
     unused(&mut answer[3 * LIMIT..4 * LIMIT]);
     unused(&mut answer[4 * LIMIT..5 * LIMIT]);

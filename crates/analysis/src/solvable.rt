@@ -17,6 +17,7 @@ use table::number::{Equation, Unknown};
 use table::{LIMIT, Row, Rows};
 
 // Counts by equation, tops by unknown, partners by equation, the equations in solving order with the block number of each place, and three figures.
+// Kept (point 6): parallel arrays; each is one of the answer's five strips, by equation, by unknown or by place (document 01), and memory is fixed.
 #[derive(Clone, Copy)]
 pub struct Solution {
     pub counts: Row,
@@ -66,19 +67,13 @@ fn write(answer: &mut [u8], n: usize, solution: &Solution)
         (take n (map (or_zero unknown_number) solution.now.partners)) (take n (map (or_zero equation_number) solution.now.order)) (take n solution.now.block)
         ++ drop answer_bytes answer.old }
 {
-    numbers(&mut answer[0..LIMIT], n, solution.counts);
-    numbers(&mut answer[LIMIT..2 * LIMIT], n, solution.tops);
-    numbers(
-        &mut answer[2 * LIMIT..3 * LIMIT],
-        n,
-        table::number::numbers(solution.partners),
-    );
-    numbers(
-        &mut answer[3 * LIMIT..4 * LIMIT],
-        n,
-        table::number::numbers(solution.order),
-    );
-    numbers(&mut answer[4 * LIMIT..5 * LIMIT], n, solution.block);
+    let partners = table::number::numbers(solution.partners);
+    let order = table::number::numbers(solution.order);
+    numbers(&mut answer[0..LIMIT], &solution.counts[..n]);
+    numbers(&mut answer[LIMIT..2 * LIMIT], &solution.tops[..n]);
+    numbers(&mut answer[2 * LIMIT..3 * LIMIT], &partners[..n]);
+    numbers(&mut answer[3 * LIMIT..4 * LIMIT], &order[..n]);
+    numbers(&mut answer[4 * LIMIT..5 * LIMIT], &solution.block[..n]);
 }
 
 // The number and the strips of a solvable model.

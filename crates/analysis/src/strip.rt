@@ -1,12 +1,13 @@
 // The writers of the strips. Each is lent its own stretch of the answer buffer and fills it wholly: what it has, and then unused places.
-ghost use Rattle.std.specs.Prelude.{◌≡◌, [], map, suc, ◌≤◌, length, take};
+// Kept (point 5): that a stretch has 32 bytes stands in three contracts; it is a part of the caller's buffer (document 01), and `[u8; LIMIT]` would ask more
+// of those who call `unused`, `numbers` and `listed` (docs/PROMISES.md).
+ghost use Rattle.std.specs.Prelude.{◌≡◌, [], map, suc, ◌≤◌, length};
 ghost use Rattle.laws.specs.Marks.{marked};
 ghost use Rattle.table.specs.Model.{limit};
 ghost use Rattle.pairing.specs.Members.{members};
 ghost use Rattle.analysis.specs.Outcome.{strip};
 
-use pairing::Marks;
-use table::{LIMIT, Row};
+use table::LIMIT;
 
 // What an unused place of a strip holds.
 pub const UNUSED: u8 = 255;
@@ -24,22 +25,22 @@ pub fn unused(stretch: &mut [u8])
 }
 
 // Numbers by place: counts, tops, partners, equations in solving order, block numbers.
-#[tactic(auto, using(crate::proofs::Strips::strip_front))]
-pub fn numbers(stretch: &mut [u8], n: usize, numbers: Row)
-    requires { (length stretch.old ≡ limit) × (n ≤ limit) }
-    ensures { stretch.new ≡ strip (take n numbers) }
+#[tactic(auto, using(crate::proofs::Strips::strip_over))]
+pub fn numbers(stretch: &mut [u8], numbers: &[u8])
+    requires { (length stretch.old ≡ limit) × (length numbers.now ≤ limit) }
+    ensures { stretch.new ≡ strip numbers.now }
 {
     unused(stretch);
-    stretch[..n].copy_from_slice(&numbers[..n]);
+    stretch[..numbers.len()].copy_from_slice(numbers);
 }
 
 // The numbers of those that are marked, ascending: surplus equations, unfixed unknowns.
-pub fn listed(stretch: &mut [u8], n: usize, marks: Marks)
-    requires { (length stretch.old ≡ limit) × (n ≤ limit) }
-    ensures { stretch.new ≡ strip (map suc (members n (marked marks))) }
+pub fn listed(stretch: &mut [u8], marks: &[bool])
+    requires { (length stretch.old ≡ limit) × (length marks.now ≤ limit) }
+    ensures { stretch.new ≡ strip (map suc (members (length marks.now) (marked marks.now))) }
 {
     unused(stretch);
-    for (at, i) in (0..n).filter(|&i| marks[i]).enumerate() {
+    for (at, i) in (0..marks.len()).filter(|&i| marks[i]).enumerate() {
         stretch[at] = (i + 1) as u8;
     }
 }

@@ -17,6 +17,8 @@ fn all_paired(equations: usize, unknowns: usize, rank: u8) -> bool
 }
 
 // The verdict on a table that was judged. Counts are looked for only where all are paired: with a surplus equation the raising would never end.
+// Kept (point 5): rows, E and U go together, and `answer_bytes ≤ length answer` stands in four contracts; a struct of the model, or a buffer of 160 bytes,
+// would ask more of those who call `verdict`, `solvable` and `singular::write` (docs/PROMISES.md) and of the lower crates' functions.
 pub fn verdict(rows: &Rows, equations: usize, unknowns: usize, answer: &mut [u8]) -> u64
     requires { Bounded equations unknowns rows.now × (answer_bytes ≤ length answer.old) }
     ensures { Verdict equations unknowns (occurs_at rows.now) (order_at rows.now) answer.old result answer.new }

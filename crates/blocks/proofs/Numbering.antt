@@ -8,14 +8,13 @@ use native.Mathlib.Numerals.{add-one}
 use native.Mathlib.Omega.{arith}
 use lib.Dec.{ltb, leb, eqb}
 use Rattle.std.specs.declared.option.Option.TheVariants.{None, Some}
-use borrow.Author.Tests.{eqb-true, eq-eqb}
+use borrow.Author.Tests.{eqb-true, eq-eqb, ne_eqb}
 use Rattle.laws.specs.Count.{bit, count, any}
 use Rattle.laws.specs.Tab.{tab, number_at}
 use Rattle.laws.proofs.Tests.{test, tests, given, clash, not_true, and_left, and_right, and_both}
 use Rattle.laws.proofs.Search.{any_where, any_none}
-use Rattle.laws.proofs.Counts.{count_within}
+use Rattle.laws.proofs.Counts.{count_within, count_less}
 use Rattle.laws.proofs.Sum.{bit_true, bit_false}
-use Rattle.laws.proofs.Inject.{count_misses}
 use Rattle.laws.proofs.Tab.{get_or_tab}
 use Rattle.table.specs.Model.{limit}
 use Rattle.pairing.specs.Pairing.{Rel}
@@ -50,8 +49,7 @@ module _ {m : ℕ} {T : Rel} (C : Closed m T) where
 
   -- what keeps e reaches strictly less than e does
   keeps_less : (e g : ℕ) → e < m → T e g ≡ true → T g e ≡ false → count m (T g) < count m (T e)
-  keeps_less e g h t f = count_misses m m (T g) (T e) (λ i j. i ≡ j) (λ i j k p q. p ∙ sym q)
-      (λ i l r. (i, l, refl, C.onward e g i t r)) e h (C.self e h) (λ i l r q. clash (rw q at r) f)
+  keeps_less e g h t f = count_less m (T g) (T e) (λ i l r. C.onward e g i t r) e h (C.self e h) f
 
   module _ (num : ℕ → ℕ) where
     -- what waiting says
@@ -236,10 +234,9 @@ module _ {m : ℕ} {T : Rel} (C : Closed m T) {num : ℕ → ℕ} {k : ℕ} (N :
 
   -- fewer are left without a number
   pub numbering_falls : unplaced m next < unplaced m num
-  numbering_falls = count_misses m m (λ f. eqb (next f) 0) (λ f. eqb (num f) 0) (λ i j. i ≡ j) (λ i j x p q. p ∙ sym q)
-      (λ f l t. (f, l, refl, let z = eqb-true (next f) 0 t in let y = old f l (omega arith) in eq-eqb (num f) 0 (omega arith)))
-      e h (eq-eqb (num e) 0 w.out)
-      (λ f l t q. let z = eqb-true (next f) 0 t in let y = (inside f l (rw q (both_self C e h))).1 in absurd (omega arith))
+  numbering_falls = count_less m (λ f. eqb (next f) 0) (λ f. eqb (num f) 0)
+      (λ f l t. let z = eqb-true (next f) 0 t in let y = old f l (omega arith) in eq-eqb (num f) 0 (omega arith))
+      e h (eq-eqb (num e) 0 w.out) (let y = (inside e h (both_self C e h)).1 in ne_eqb (next e) 0 (λ z. omega arith))
 
 -- the loop: k blocks stand
 pub record Counting (m : ℕ) (T : Rel) (num : ℕ → ℕ) (k : ℕ) : Type 0 where

@@ -30,12 +30,11 @@ fill_rest n i f g rest = tab_ext n (upto i f g) f
     (λ t. upto_from i f g k (ltb-false k i t) ∙ sym (rest k (ltb-false k i t))))
 
 -- a row left as it is
-module _ (row other : List ℕ) (k : ℕ) where
-  abbrev pub stepped : ℕ → ℕ
-  stepped g = pick (eqb (get_or row k 0) 0) (get_or row g 0) (either (get_or row g 0) (get_or other g 0))
-
-  pub row_left : length row ≡ limit → get_or row k 0 ≡ 0 → row ≡ tab limit stepped
-  row_left n z = is_tab row 0 limit stepped n (λ g b. rw (eq-eqb (get_or row k 0) 0 z))
+pub row_left : (row other : List ℕ) (k : ℕ) → length row ≡ limit → get_or row k 0 ≡ 0
+    → row ≡ tab limit (λ g. pick (eqb (get_or row k 0) 0) (get_or row g 0) (either (get_or row g 0) (get_or other g 0)))
+row_left row other k n z =
+    is_tab row 0 limit (λ g. pick (eqb (get_or row k 0) 0) (get_or row g 0) (either (get_or row g 0) (get_or other g 0))) n
+    (λ g b. rw (eq-eqb (get_or row k 0) 0 z))
 
 -- codes 1 and 0 joined are codes 1 and 0
 pub through_bits : (T : Rel) (t : List (List ℕ)) (k : ℕ) → t ≡ square (λ e g. bit (T e g)) → k < limit

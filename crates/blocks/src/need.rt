@@ -36,6 +36,7 @@ fn need_row(leading: &Rows, equations: usize, partners: [Option<Unknown>; LIMIT]
 }
 
 // The needs as a table: 1 where the row's equation needs the column's, 0 elsewhere.
+// Kept (point 1): codes 1 and 0 in place of bools, for `place` (docs/PROMISES.md) takes rows of codes, and `Bits` and `ReachTable` speak of such rows.
 pub fn needs(leading: &Rows, equations: usize, partners: [Option<Unknown>; LIMIT]) -> Rows
     requires { Partnered equations partners }
     ensures { result ≡ square (λ f g. bit (needs_at equations (occurs_at leading.now) (partner_at partners) f g)) }

@@ -1,5 +1,6 @@
 // The blocks get their numbers one by one: of those that are ready, the one with the lowest equation number in it.
 ghost use Rattle.std.specs.Prelude.{◌≡◌, ◌<◌, ◌≤◌};
+ghost use Rattle.std.specs.List.{list_any, range_with_len};
 ghost use Rattle.laws.specs.Tab.{tab, number_at};
 ghost use Rattle.table.specs.Model.{limit, occurs_at};
 ghost use Rattle.blocks.specs.Handed.{Closed};
@@ -9,6 +10,8 @@ use laws::array::tabulated;
 use table::{LIMIT, Row, Rows};
 
 // For each equation the number of its block, and how many blocks there are.
+// Kept (point 1): a block that does not stand yet has number 0. As `Option<NonZeroU8>` the numbers would be turned back one by one for
+// `Placing.block`, the strip of bytes with 0 for none of which `PlacingIs` and `one_block` speak.
 #[derive(Clone, Copy)]
 pub struct BlockNumbers {
     pub number: Row,
@@ -40,12 +43,21 @@ impl StandingBlocks<'_> {
         self.reach[e][g] != 0 && self.reach[g][e] == 0 && self.number[g] == 0
     }
 
+    // Some equation keeps that at place e waiting.
+    fn kept(&self, e: usize) -> bool
+        requires { (self.now.equations ≤ limit) × (e < limit) }
+        ensures { result ≡ list_any (keeps_at (occurs_at self.now.reach.now) (number_at self.now.number) e) (range_with_len 0 self.now.equations) }
+    {
+        (0..self.equations).any(|g| self.keeps(e, g))
+    }
+
     // The block of the equation at place e does not stand yet and is ready.
+    #[tactic(auto, using(crate::proofs::Ranges::any_range))]
     fn waits(&self, e: usize) -> bool
         requires { (self.now.equations ≤ limit) × (e < limit) }
         ensures { result ≡ waits_at self.now.equations (occurs_at self.now.reach.now) (number_at self.now.number) e }
     {
-        self.number[e] == 0 && !(0..self.equations).any(|g| self.keeps(e, g))
+        self.number[e] == 0 && !self.kept(e)
     }
 
     // The place of the lowest equation whose block is ready.

@@ -9,6 +9,9 @@ ghost use Rattle.blocks.specs.Steps.{at_once, either, through_code};
 use laws::array::tabulated;
 use table::{LIMIT, Row, Rows};
 
+// Kept (point 5): `equations ≤ limit` and a place below the limit stay clauses. `needs`, `reach`, `place` and `solve_order` (docs/PROMISES.md) take plain
+// numbers, so that a type for either would be made anew in each of them and taken apart at each index, as in `rows[e.index()][e.index()]`.
+
 // Each equation reaches itself, and at once what it needs.
 #[tactic(auto, using(laws::proofs::Tab::fill_start, crate::proofs::Tables::own_next, crate::proofs::Tables::own_end))]
 fn at_once(needs: &Rows, equations: usize) -> Rows

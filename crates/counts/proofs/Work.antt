@@ -3,7 +3,7 @@
 use mathlib.Core.Path.{◌≡◌, refl, sym, ◌∙◌, ap, fun_ext}
 use mathlib.Core.Bool.{Bool, true, false, not, ◌&&◌}
 use mathlib.Core.List.{List, []}
-use Prim.Native.Nat.{ℕ, suc, ◌+◌, ◌-◌, ◌<◌, ◌≤◌}
+use Prim.Native.Nat.{ℕ, suc, ◌-◌, ◌<◌, ◌≤◌}
 use native.Mathlib.Omega.{arith}
 use lib.Dec.{ltb, eqb}
 use lib.ListN.{replicate}
@@ -63,14 +63,18 @@ module _ (n : ℕ) (t : List (List ℕ)) (counts tops : List ℕ) (small : n ≤
       let rest = and_right (ltb e n) (ltb u n && leading_at t counts tops e u) both in
       (ltb-true e n (and_left (ltb e n) (ltb u n && leading_at t counts tops e u) both), ltb-true u n (and_left (ltb u n) (leading_at t counts tops e u) rest)))
 
--- the tops as the code has them
-pub tops_at : (n : ℕ) (t : List (List ℕ)) (counts : List ℕ) → n ≤ limit → (u : ℕ) → u < n → number_at (tops_of n t counts) u ≡ high_at n t counts u
-tops_at n t counts small u h = get_or_tab limit (λ u. pick (ltb u n) (high_at n t counts u) 0) u 0 (omega arith) ∙ rw (lt-ltb u n h)
+-- a list that has f below n and 0 from there on
+picked_at : (n : ℕ) (f : ℕ → ℕ) → n ≤ limit → (i : ℕ) → number_at (tab limit (λ i. pick (ltb i n) (f i) 0)) i ≡ pick (ltb i n) (f i) 0
+picked_at n f small i = test (ltb i limit)
+    (λ h. get_or_tab limit (λ i. pick (ltb i n) (f i) 0) i 0 (ltb-true i limit h))
+    (λ h. get_or_past limit (λ i. pick (ltb i n) (f i) 0) i 0 (omega (arith, tests)) ∙ rw (le-ltb i n (omega (arith, tests))))
 
-pub tops_beyond_lem : (n : ℕ) (t : List (List ℕ)) (counts : List ℕ) (u : ℕ) → n ≤ u → number_at (tops_of n t counts) u ≡ 0
-tops_beyond_lem n t counts u h = test (ltb u limit)
-    (λ k. get_or_tab limit (λ u. pick (ltb u n) (high_at n t counts u) 0) u 0 (ltb-true u limit k) ∙ rw (le-ltb u n h))
-    (λ k. get_or_past limit (λ u. pick (ltb u n) (high_at n t counts u) 0) u 0 (omega (arith, tests)))
+-- the tops as the code has them
+tops_at : (n : ℕ) (t : List (List ℕ)) (counts : List ℕ) → n ≤ limit → (u : ℕ) → u < n → number_at (tops_of n t counts) u ≡ high_at n t counts u
+tops_at n t counts small u h = picked_at n (high_at n t counts) small u ∙ rw (lt-ltb u n h)
+
+tops_past : (n : ℕ) (t : List (List ℕ)) (counts : List ℕ) → n ≤ limit → (u : ℕ) → n ≤ u → number_at (tops_of n t counts) u ≡ 0
+tops_past n t counts small u h = picked_at n (high_at n t counts) small u ∙ rw (le-ltb u n h)
 
 -- the leading occurrences of the counts with their tops, in the table and by the definition
 abbrev rows_of : ℕ → List (List ℕ) → List ℕ → Rel
@@ -105,7 +109,7 @@ module _ (n : ℕ) (t : List (List ℕ)) (counts : List ℕ) (small : n ≤ limi
   pub to_paired : (f : ℕ) (holders : List (Option Equation)) → KeptIn n t f counts holders → Paired n (rows_of n t counts) f (held holders)
   to_paired f holders p = over_paired p.upto (λ e u h k l. same e u h k ∙ l)
 
-  pub from_paired : (f f' : ℕ) (holders holders' : List (Option Equation)) → KeptIn n t f counts holders → Paired n (rows_of n t counts) f' (held holders')
+  from_paired : (f f' : ℕ) (holders holders' : List (Option Equation)) → KeptIn n t f counts holders → Paired n (rows_of n t counts) f' (held holders')
       → KeptIn n t f' counts holders'
   from_paired f f' holders holders' p q = record { upto = over_paired q (λ e u h k l. to_lead e u l); low = p.low; room = p.room; beyond = p.beyond }
 
@@ -117,23 +121,27 @@ module _ (n : ℕ) (t : List (List ℕ)) (can : Pairable n t) where
   pub orders : (e u : ℕ) → e < n → u < n → order_at t e u ≤ top_order
   orders e u h k = let c = can.bounded.codes e u h k in omega arith
 
-  -- before the first search
-  pub begin_in : KeptIn n t 0 (replicate limit 0) (replicate limit None)
-  begin_in =
-      let nobody : List (Option Equation) = replicate limit None in
-      begin n (occurs_at t) (order_at t) (number_at (replicate limit 0)) (held nobody) orders (λ e. copies_at {A = ℕ} limit 0 e)
-      (λ e u m.
-      let z : holder nobody u ≡ 0 = ap (or_zero equation_number) (copies_at {A = Option Equation} limit None u) in
-      let k = eqb-true (holder nobody u) (suc e) m in
-      omega arith)
-
   -- order + count fits a byte all the way
-  pub small_in : (f : ℕ) (counts : List ℕ) (holders : List (Option Equation)) → KeptIn n t f counts holders → Small n t counts
+  small_in : (f : ℕ) (counts : List ℕ) (holders : List (Option Equation)) → KeptIn n t f counts holders → Small n t counts
   small_in f counts holders p = record {
     bounded = can.bounded;
     few = λ e h. let k = count_few n (occurs_at t) (order_at t) can.pairs can.full f (number_at counts) (held holders) p e h in
         let w = can.bounded.equations in omega arith;
   }
+
+  -- before the first search
+  pub begin_in : Small n t (replicate limit 0) × KeptIn n t 0 (replicate limit 0) (replicate limit None)
+  begin_in = (small_in 0 (replicate limit 0) nobody kept, kept)
+    where
+      nobody : List (Option Equation)
+      nobody = replicate limit None
+
+      kept : KeptIn n t 0 (replicate limit 0) nobody
+      kept = begin n (occurs_at t) (order_at t) (number_at (replicate limit 0)) (held nobody) orders (λ e. copies_at {A = ℕ} limit 0 e)
+          (λ e u m.
+          let z : holder nobody u ≡ 0 = ap (or_zero equation_number) (copies_at {A = Option Equation} limit None u) in
+          let k = eqb-true (holder nobody u) (suc e) m in
+          omega arith)
 
   -- one raise of the list
   module _ (f : ℕ) (counts : List ℕ) (holders : List (Option Equation)) (asked : List Bool) (b : f < n) (p : KeptIn n t f counts holders)
@@ -142,18 +150,13 @@ module _ (n : ℕ) (t : List (List ℕ)) (can : Pairable n t) where
     raised_list = fun_ext at_each
       where
         at_each : (e : ℕ) → number_at (raised_by n counts asked) e ≡ raised (number_at counts) (marked asked) e
-        at_each e = test (ltb e n)
-            (λ h. let w = can.bounded.equations in let k = ltb-true e n h in
-            get_or_tab limit (λ e. pick (ltb e n) (number_at counts e + bit (marked asked e)) 0) e 0 (omega arith) ∙ rw h)
+        at_each e = picked_at n (raised (number_at counts) (marked asked)) can.bounded.equations e ∙ test (ltb e n) (λ h. rw h)
             (λ h. let k = ltb-false e n h in
             let s = stuck n t counts can.bounded.equations f holders asked b p none in
             let out : marked asked e ≡ false = not_true (λ m. let r = reach_within p.upto.pairs b (s.reached e m) in absurd (omega arith)) in
             let z = p.beyond e k in
             let o = bit_false out in
-            let l = test (ltb e limit)
-            (λ w. get_or_tab limit (λ e. pick (ltb e n) (number_at counts e + bit (marked asked e)) 0) e 0 (ltb-true e limit w) ∙ rw h)
-            (λ w. get_or_past limit (λ e. pick (ltb e n) (number_at counts e + bit (marked asked e)) 0) e 0 (ltb-false e limit w)) in
-            omega arith)
+            rw h (omega arith))
 
     raise_in : KeptIn n t f (raised_by n counts asked) holders × Nearer n t counts (raised_by n counts asked)
     raise_in =
@@ -166,17 +169,20 @@ module _ (n : ℕ) (t : List (List ℕ)) (can : Pairable n t) where
   -- a pairing that went on and stopped, and then a raise
   pub risen : (f : ℕ) (counts : List ℕ) (holders : List (Option Equation)) → KeptIn n t f counts holders
       → (f' : ℕ) (holders' : List (Option Equation)) (asked : List Bool) → f' < n → Went n (rows_of n t counts) f' holders' asked
-      → KeptIn n t f' (raised_by n counts asked) holders' × Nearer n t counts (raised_by n counts asked)
+      → Small n t (raised_by n counts asked) × KeptIn n t f' (raised_by n counts asked) holders' × Nearer n t counts (raised_by n counts asked)
   risen f counts holders p f' holders' asked b went =
-      raise_in f' counts holders' asked b (from_paired n t counts can.bounded.equations f f' holders holders' p went.upto) (went.stopped b)
+      let r = raise_in f' counts holders' asked b (from_paired n t counts can.bounded.equations f f' holders holders' p went.upto) (went.stopped b) in
+      (small_in f' (raised_by n counts asked) holders' r.0, r.0, r.1)
 
   -- after the last search
-  pub answer : (counts : List ℕ) (holders : List (Option Equation)) → KeptIn n t n counts holders → Chosen n t counts (tops_of n t counts) holders
-  answer counts holders p =
+  pub answer : (f : ℕ) (counts : List ℕ) (holders all : List (Option Equation)) → KeptIn n t f counts holders → Paired n (rows_of n t counts) n (held all)
+      → Chosen n t counts (tops_of n t counts) all
+  answer f counts holders all kept on =
+      let p = from_paired n t counts can.bounded.equations f n holders all kept on in
       let tops = tops_at n t counts can.bounded.equations in
       record {
-        least = least n (occurs_at t) (order_at t) (number_at counts) (number_at (tops_of n t counts)) (held holders) p tops;
-        paired = paired n (occurs_at t) (order_at t) (number_at counts) (number_at (tops_of n t counts)) (held holders) p tops;
+        least = least n (occurs_at t) (order_at t) (number_at counts) (number_at (tops_of n t counts)) (held all) p tops;
+        paired = paired n (occurs_at t) (order_at t) (number_at counts) (number_at (tops_of n t counts)) (held all) p tops;
         counts_beyond = p.beyond;
-        tops_beyond = tops_beyond_lem n t counts;
+        tops_beyond = tops_past n t counts can.bounded.equations;
       }

@@ -16,6 +16,8 @@ fn most(numbers: &[u8]) -> u8
 }
 
 // Index: the largest count.
+// Kept (point 5): `n ≤ limit` stays a clause, since `index` and `freedom` take n as a bare number (docs/PROMISES.md); a type for n would be built by each caller to hold
+// this one comparison.
 #[tactic(auto, using(crate::proofs::Places::largest_first))]
 pub fn index(n: usize, counts: &Row) -> u8
     requires { n ≤ limit }
@@ -33,6 +35,7 @@ fn total(numbers: &[u8]) -> usize
 }
 
 // Freedom: sum of tops less sum of counts. Of a fit choice it is at most 3 for each equation, so it fits.
+// Kept (point 4): the check proves that the number fits `as u8`; `try_from` would hand back an error that cannot come.
 #[tactic(auto, using(crate::proofs::Places::sum_first))]
 pub fn freedom(n: usize, counts: &Row, tops: &Row) -> u8
     requires { (n ≤ limit) × (sum n (number_at counts.now) ≤ sum n (number_at tops.now))

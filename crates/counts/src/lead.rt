@@ -1,10 +1,10 @@
 // The table of leading occurrences: code 1 where order + count is the unknown's top, 0 elsewhere.
-ghost use Rattle.std.specs.Prelude.{◌≡◌, not, ◌&&◌, ◌+◌, ◌-◌, ◌*◌, ◌<◌, ◌≤◌, eqb, ltb};
+ghost use Rattle.std.specs.Prelude.{◌≡◌, ◌-◌, ◌<◌, ◌≤◌, ltb};
 ghost use Rattle.laws.specs.Count.{bit};
 ghost use Rattle.laws.specs.Tab.{tab, pick};
-ghost use Rattle.table.specs.Model.{limit, top_code};
+ghost use Rattle.table.specs.Model.{limit};
 ghost use Rattle.table.specs.Number.{equation_number};
-ghost use Rattle.counts.specs.Work.{top_order, Small, leading_at, leading_rows};
+ghost use Rattle.counts.specs.Work.{Small, leading_at, leading_rows};
 
 use crate::tops::lifted;
 use laws::array::tabulated;
@@ -17,8 +17,7 @@ fn lead_row(table: &Rows, n: usize, e: Equation, counts: &Row, tops: &Row) -> Ro
     requires { Small n table.now counts.now × (equation_number e ≤ n) }
     ensures { result ≡ tab limit (λ u. pick (ltb u n) (bit (leading_at table.now counts.now tops.now (equation_number e - 1) u)) 0) }
 {
-    let at = e.place();
-    let count = counts[at];
+    let count = counts[e.place()];
     let codes = row(table, e);
     tabulated(n, 0, |u| u8::from(lifted(codes[u], count) == Some(tops[u])))
 }

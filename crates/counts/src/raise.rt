@@ -1,12 +1,11 @@
 // The least counts of a model that has a pairing of all its equations. Each equation in turn searches over the leading occurrences; as long as it
 // finds nothing, all that were asked are differentiated once more. Some pairing of all equations is what makes the raising end.
 ghost use Rattle.std.specs.Prelude.{◌≡◌, MatchResult, ℕ, ◌+◌, ◌*◌, ◌<◌, ◌≤◌};
-ghost use Rattle.laws.specs.Count.{bit};
 ghost use Rattle.table.specs.Model.{limit, occurs_at};
 ghost use Rattle.pairing.specs.Holders.{held};
-ghost use Rattle.counts.specs.Work.{top_order, tops_of, leading_rows, Small, Pairable, Chosen};
+ghost use Rattle.counts.specs.Work.{top_order, Pairable, Chosen};
 ghost use Rattle.laws.specs.Tab.{number_at};
-ghost use Rattle.counts.specs.Kept.{KeptIn, Paired, Went, raised_by};
+ghost use Rattle.counts.specs.Kept.{Paired, Went, raised_by};
 
 use crate::lead::leading_rows;
 use crate::tops::tops;
@@ -40,15 +39,6 @@ fn raised(n: usize, counts: &Row, asked: &Marks) -> Row
     tabulated(n, 0, |e| counts[e] + u8::from(asked[e]))
 }
 
-// The table of leading occurrences of the counts with their tops.
-fn leading_of(table: &Rows, n: usize, counts: &Row) -> Rows
-    requires { Small n table.now counts.now }
-    ensures { result ≡ leading_rows n table.now counts.now (tops_of n table.now counts.now) }
-{
-    let tops = tops(table, n, counts);
-    leading_rows(table, n, counts, &tops)
-}
-
 // The equations from one on are paired in turn over the leading occurrences: all of them, or as far as that goes.
 fn pair_on(leading: &Rows, n: usize, from: usize, holders: Holders) -> Result<Holders, Stopped>
     requires { (n ≤ limit) × (from ≤ n) × Paired n (occurs_at leading.now) from (held holders) }
@@ -71,19 +61,6 @@ fn pair_on(leading: &Rows, n: usize, from: usize, holders: Holders) -> Result<Ho
     Ok(holders)
 }
 
-// The answer, once all equations are paired: the counts with their tops.
-fn chosen(table: &Rows, n: usize, counts: Row, holders: Holders) -> Choice
-    requires { Pairable n table.now × KeptIn n table.now n counts holders }
-    ensures { Chosen n table.now result.counts result.tops result.holders }
-{
-    let tops = tops(table, n, &counts);
-    Choice {
-        counts,
-        tops,
-        holders,
-    }
-}
-
 // The answer of document 01 for a solvable model of n equations: the fit choice whose every count is no larger than in any other fit choice.
 // Each raise brings the tops' sum nearer to the counts' sum, and it never falls below that.
 pub fn least(table: &Rows, n: usize) -> Choice
@@ -94,9 +71,16 @@ pub fn least(table: &Rows, n: usize) -> Choice
     let mut holders = [None; LIMIT];
     let mut paired = 0;
     loop {
-        let leading = leading_of(table, n, &counts);
+        let tops = tops(table, n, &counts);
+        let leading = leading_rows(table, n, &counts, &tops);
         match pair_on(&leading, n, paired, holders) {
-            Ok(all) => return chosen(table, n, counts, all),
+            Ok(holders) => {
+                return Choice {
+                    counts,
+                    tops,
+                    holders,
+                };
+            }
             Err(stopped) => {
                 counts = raised(n, &counts, &stopped.asked);
                 paired = stopped.paired;

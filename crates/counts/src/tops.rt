@@ -1,5 +1,5 @@
 // The tops that belong to counts: for each unknown the largest order + count over its occurrences.
-ghost use Rattle.std.specs.Prelude.{◌≡◌, not, ◌+◌, ◌-◌, ◌*◌, ◌<◌, ◌≤◌, eqb};
+ghost use Rattle.std.specs.Prelude.{◌≡◌, not, ◌+◌, ◌-◌, ◌*◌, ◌≤◌, eqb};
 ghost use Rattle.laws.specs.Tab.{pick};
 ghost use Rattle.table.specs.Model.{limit, top_code};
 ghost use Rattle.table.specs.Number.{unknown_number};
@@ -19,6 +19,8 @@ pub(crate) fn lifted(code: u8, count: u8) -> Option<u8>
 }
 
 // The largest order + count over the occurrences of one unknown.
+// Kept (point 5): `Small` says in a word what `top`, `tops`, `lead::lead_row` and `lead::leading_rows` ask of table, n and counts. The public two take the three apart
+// (docs/PROMISES.md), so a struct would be built in each of them for its one inner function, and be no plainer.
 fn top(table: &Rows, n: usize, u: Unknown, counts: &Row) -> u8
     requires { Small n table.now counts.now × (unknown_number u ≤ n) }
     ensures { result ≡ high_at n table.now counts.now (unknown_number u - 1) }
@@ -36,12 +38,5 @@ pub fn tops(table: &Rows, n: usize, counts: &Row) -> Row
     requires { Small n table.now counts.now }
     ensures { result ≡ tops_of n table.now counts.now }
 {
-    tabulated(
-        n,
-        0,
-        |u|
-            requires { Small n table.now counts.now × (u < n) }
-            ensures { result ≡ high_at n table.entry.now counts.entry.now u }
-        { top(table, n, Unknown::at(u), counts) },
-    )
+    tabulated(n, 0, |u| top(table, n, Unknown::at(u), counts))
 }

@@ -12,5 +12,5 @@ returns c =
     let solution = start.solution.now in
     put_five start.answer.now (take n solution.counts) (take n solution.tops) (take n (map (or_zero unknown_number) solution.partners))
     (take n (map (or_zero equation_number) solution.order)) (take n solution.block)
-    c.numbers.ensures c.numbers-2.ensures (rw c.numbers-3.ensures at c.numbers-4.ensures)
-    (rw c.numbers-5.ensures at c.numbers-6.ensures) c.numbers-7.ensures
+    c.numbers.ensures c.numbers-2.ensures (rw c.numbers-partners.ensures at c.numbers-3.ensures)
+    (rw c.numbers-order.ensures at c.numbers-4.ensures) c.numbers-5.ensures

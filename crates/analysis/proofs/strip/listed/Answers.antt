@@ -13,9 +13,9 @@ use Rattle.analysis.proofs.strip.listed.Goals as goal
 
 -- each number comes with the place behind those that came before
 next : (c : goal.In-Some) → (c.in-Some.at ≡ length c.loop-at.yielded) × (length c.loop-at.yielded < limit)
-next c = next_place c.args.n (marked c.args.marks) c.loop-at.yielded (c.in-Some.at, c.in-Some.i) c.requires.1
+next c = next_place (length c.args.marks.now) (marked c.args.marks.now) c.loop-at.yielded (c.in-Some.at, c.in-Some.i) c.requires.1
     (YieldsList-turn (YieldsList-at c.into_iter-at-iterator.ensures.into_iter_gives (YieldsList-from_enumerate (YieldsList-at c.enumerate-at-items.ensures.source
-    (YieldsList-from_filter _ (marked c.args.marks) (YieldsList-from_range 0 c.args.n c.args.n (search rules) (omega arith)) c.filter.ensures.closure
+    (YieldsList-from_filter _ (marked c.args.marks.now) (YieldsList-from_range 0 (length c.args.marks.now) (length c.args.marks.now) (search rules) (omega arith)) c.filter.ensures.closure
     (λ x b q k. search (rules, tests)))) (search rules)))
     c.loop-at.yielded _ c.loop-at.yielded_by _ _ (c.in-Some.at, c.in-Some.i) c.in-Some.is c.next.ensures.steps)
 
@@ -28,7 +28,7 @@ loop-at-preserved c = rw c.loop-at.invariant (listed_add c.loop-at.yielded (c.in
 pub returns : goal.returns
 returns c =
     let all = YieldsList-end (YieldsList-at c.into_iter-at-iterator.ensures.into_iter_gives (YieldsList-from_enumerate (YieldsList-at c.enumerate-at-items.ensures.source
-    (YieldsList-from_filter _ (marked c.args.marks) (YieldsList-from_range 0 c.args.n c.args.n (search rules) (omega arith)) c.filter.ensures.closure
+    (YieldsList-from_filter _ (marked c.args.marks.now) (YieldsList-from_range 0 (length c.args.marks.now) (length c.args.marks.now) (search rules) (omega arith)) c.filter.ensures.closure
     (λ x b q k. search (rules, tests)))) (search rules)))
     c.loop-at.yielded _ c.loop-at.yielded_by _ _ c.in-None.is c.next.ensures.steps in
-    c.loop-at.invariant ∙ listed_all c.args.n (marked c.args.marks) c.loop-at.yielded all.0
+    c.loop-at.invariant ∙ listed_all (length c.args.marks.now) (marked c.args.marks.now) c.loop-at.yielded all.0
