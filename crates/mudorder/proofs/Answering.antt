@@ -1,5 +1,5 @@
 -- What was reported and then written from the buffer for the text is the printed text of the input.
-use Rattle.std.proofs.Common.{IfSome, OnOk, Result, Ok, Err, ◌≡◌, ◌≤◌, ℕ, List, ◌++◌, None, Some, sym, ap, ◌∙◌, subst, length, take, drop, arith}
+use Rattle.std.proofs.Common.{IfSome, OnOk, MatchResult, IsErrAnd, Result, Ok, Err, ◌≡◌, ◌≤◌, ℕ, List, ◌++◌, None, Some, sym, ap, ◌∙◌, subst, length, take, drop, arith}
 use Rattle.std.specs.declared.option.Option.{Option}
 use Rattle.std.specs.Io.{StartsWith}
 use Rattle.std.specs.Io.KnownBytes.{Appends}
@@ -40,3 +40,8 @@ pub ended : (left : Option (List ℕ)) (card before after : List ℕ) (handed : 
     → IfSome left (λ input. Reported input before handed after)
 ended None card before after handed s k = tt
 ended (Some input) card before after handed s k = subst (λ i. Reported i before handed after) (sym s) k
+
+-- what was good before its refusals were named
+pub good_before : {T E D : Type 0} (P : E → D → Type 0) (r : Result T E) (m : Result T D) (x : T) → MatchResult r (λ y. m ≡ Ok y) (λ e. IsErrAnd m (P e)) → m ≡ Ok x → r ≡ Ok x
+good_before P (Ok y) m x k h = cc
+good_before P (Err e) m x k h = absurd (subst (λ n. IsErrAnd n (P e)) h k)

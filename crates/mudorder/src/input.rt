@@ -5,30 +5,28 @@ ghost use Rattle.mudorder.specs.Input.{Possible, Given};
 use std::io;
 use std::io::Read;
 
-// What became of the input.
+// What became of an input that no read failed of.
 #[derive(Clone, Copy)]
 pub enum Input {
     // It ended behind so many bytes, and they stand in the buffer.
     Ended(usize),
     // It fills the buffer, and more may follow.
     Full,
-    // A read failed, for this reason: what came before is not the input.
-    Failed(io::Error),
 }
 
-// Reads until the buffer is full, the input ends or a read fails. On an input that does not wait, a read that has nothing to give yet has failed. One that
-// a signal interrupts would have failed too, but the program handles no signal, so the system takes such a read up again by itself.
-pub fn fill<R: Read>(reader: &mut R, buffer: &mut [u8]) -> Input
+// Reads until the buffer is full, the input ends or a read fails: what came before a read that failed is not the input. On an input that does not wait, a
+// read that has nothing to give yet has failed. One that a signal interrupts would have failed too, but the program handles no signal, so the system takes
+// such a read up again by itself.
+pub fn fill<R: Read>(reader: &mut R, buffer: &mut [u8]) -> io::Result<Input>
     ensures possible { Possible (length buffer.old) result }
     ensures given { Given (R.remaining reader.old) buffer.new result }
 {
     let mut done = 0;
     while done < buffer.len() {
-        match reader.read(&mut buffer[done..]) {
-            Ok(0) => return Input::Ended(done),
-            Ok(count) => done += count,
-            Err(why) => return Input::Failed(why),
+        match reader.read(&mut buffer[done..])? {
+            0 => return Ok(Input::Ended(done)),
+            count => done += count,
         }
     }
-    Input::Full
+    Ok(Input::Full)
 }

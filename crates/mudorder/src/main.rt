@@ -12,15 +12,29 @@ ghost use Rattle.mudorder.specs.Answer.{Answered, Unanswered, IsUntaken};
 
 use crate::input::{Input, fill};
 use report::{INPUT_LIMIT, TEXT_LIMIT, report};
-use std::io;
 use std::io::{Read, Write};
 use std::process::ExitCode;
+use std::{fmt, io};
 
 // Why there is no result, or not the whole of it.
 #[derive(Clone, Copy)]
 enum Failure {
     Unread(io::Error),
     Untaken(io::Error),
+}
+
+impl fmt::Display for Failure {
+    fn fmt<W: fmt::Write>(&self, f: &mut fmt::Formatter<W>) -> fmt::Result {
+        match self {
+            Failure::Unread(why) => write!(
+                f,
+                "no result, since standard input could not be read to its end: {why}"
+            ),
+            Failure::Untaken(why) => {
+                write!(f, "standard output did not take the whole result: {why}")
+            }
+        }
+    }
 }
 
 // The result of every input that begins so: above the limit it is refused, whatever follows.
@@ -51,7 +65,7 @@ fn answer<R: Read, W: Write>(
     ensures ok { OnOk result (Answered (R.remaining reader.old) (W.contents out.old) (W.contents out.new)) }
     ensures err { IfErr result (λ failure. Unanswered failure (W.contents out.old) (W.contents out.new)) }
 {
-    match fill(reader, card) {
+    match fill(reader, card).map_err(Failure::Unread)? {
         Input::Ended(count) => {
             let written = report(&card[..count], text);
             print(out, text, written)
@@ -60,24 +74,7 @@ fn answer<R: Read, W: Write>(
             let written = report_beginning(card, text);
             print(out, text, written)
         }
-        Input::Failed(why) => Err(Failure::Unread(why)),
     }
-}
-
-fn say_unread(rt: &impl Eprint, why: io::Error) -> io::Result<()> {
-    eprintln!(rt; "mudorder: no result, since standard input could not be read to its end: {why}")
-}
-
-fn say_untaken(rt: &impl Eprint, why: io::Error) -> io::Result<()> {
-    eprintln!(rt; "mudorder: standard output did not take the whole result: {why}")
-}
-
-// Where standard error does not take the words either, nobody is left to tell.
-fn say(rt: &impl Eprint, failure: Failure) {
-    let _ = match failure {
-        Failure::Unread(why) => say_unread(rt, why),
-        Failure::Untaken(why) => say_untaken(rt, why),
-    };
 }
 
 fn main(rt: HostRuntime) -> ExitCode {
@@ -86,7 +83,8 @@ fn main(rt: HostRuntime) -> ExitCode {
     match answer(&mut rt.stdin(), &mut rt.stdout(), &mut card, &mut text) {
         Ok(()) => ExitCode::SUCCESS,
         Err(failure) => {
-            say(&rt, failure);
+            // Where standard error does not take the words either, nobody is left to tell.
+            let _ = eprintln!(rt; "mudorder: {failure}");
             ExitCode::FAILURE
         }
     }

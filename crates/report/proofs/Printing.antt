@@ -12,6 +12,7 @@ use Rattle.laws.proofs.Tests.{test}
 use Rattle.table.specs.Model.{limit}
 use Rattle.table.proofs.Model.{limits}
 use Rattle.card.specs.Text.{comma}
+use Rattle.card.specs.Refusal.{refusal_number}
 use Rattle.card.specs.Card.{Judged, refused, good, judged}
 use Rattle.card.proofs.PutLaws.{dec_short}
 use Rattle.card.proofs.Readable.{good_card}
@@ -43,7 +44,7 @@ one_text {input} {text} {text'} a b =
     (λ t. let h = ltb-false input_limit (length input) t in go (judged input) (a.short h) (b.short h))
   where
     go : (j : Judged) → PrintedOf j text → PrintedOf j text' → text ≡ text'
-    go (refused m at) x y = x ∙ sym y
+    go (refused m) x y = x ∙ sym y
     go (good name E U t) x y = model_one x y
 
 -- and so are any two reports
@@ -91,7 +92,7 @@ text_short {input} {text} p =
     (λ t. go (judged input) refl (p.short (ltb-false input_limit (length input) t)))
   where
     go : (j : Judged) → judged input ≡ j → PrintedOf j text → length text ≤ 1024
-    go (refused m at) q w = rw w (refused_short m at)
+    go (refused r) q w = rw w (refused_short (refusal_number r.refusal) r.place)
     go (good name E U t) q p =
         let m = limits E U (good_card input name E U t q).fine.limits in
         model_short (rw q at (name_fits input)) m.0.high m.1.high p

@@ -1,28 +1,24 @@
 -- Laws of the three texts: their parts, one behind another, and how long each is at most.
 use mathlib.Core.Path.{◌≡◌}
 use mathlib.Core.List.{List, [], ◌∷◌, ◌++◌, append_assoc}
-use Prim.Native.Nat.{ℕ, suc, ◌+◌, ◌-◌, ◌*◌, ◌/◌, ◌≤◌, ◌<◌}
+use Prim.Native.Nat.{ℕ, suc, ◌+◌, ◌*◌, ◌/◌, ◌≤◌, ◌<◌}
 use native.Mathlib.Omega.{arith}
 use lib.Dec.{ltb}
-use lib.ListN.{length, take, drop, length-append, length-take, length-drop}
-use lib.Seq.{length-take-le}
+use lib.ListN.{length, length-append}
 use borrow.Author.Tests.{lt-ltb, le-ltb}
 use Rattle.laws.specs.Text.{bytes}
 use Rattle.laws.proofs.Tests.{test}
 use Rattle.table.specs.Model.{limit}
 use Rattle.card.specs.Text.{LF, digit_of, dec}
-use Rattle.card.specs.Laid.{Laid}
-use Rattle.card.proofs.PutLaws.{laid_then, dec_short}
-use Rattle.card.proofs.WriteLaws.{laid_same}
-use Rattle.analysis.specs.Outcome.{answer_bytes, rank_in, index_in, freedom_in}
-use Rattle.report.specs.Printed.{field, further, joined, commas, or_none, place_dec, refused_text}
-use Rattle.report.specs.Steps.{used_in, strip_in, singular_text, solvable_text, head_text, strips_text}
+use Rattle.card.specs.Laid.{LaidOn}
+use Rattle.card.proofs.PutLaws.{laid_on_then, dec_short}
+use Rattle.card.specs.declared.put.Sheet.{Sheet}
+use Rattle.analysis.specs.Outcome.{rank_in, index_in, freedom_in}
+use Rattle.report.specs.Printed.{field, further, joined, commas, or_none, blocks_of, place_dec, refused_text}
+use Rattle.report.specs.Steps.{used_in, strip_in, singular_text, solvable_text, head_text}
 use Rattle.report.proofs.ListLaws.{used_within}
 
 -- ---- how long
-
-pub strip_short : (k n : ℕ) (a : List ℕ) → length (strip_in k n a) ≤ n
-strip_short k n a = rw length-take (omega arith)
 
 further_short : (split : ℕ → ℕ) (l : List ℕ) → length (further split l) ≤ 5 * length l
 further_short split [] = omega arith
@@ -39,68 +35,45 @@ none_short (x ∷ l) = omega (arith, joined_short (λ _. 44) (x ∷ l))
 pub used_short : (l : List ℕ) → length (or_none (used_in l)) ≤ 5 * length l + 4
 used_short l = omega (arith, none_short (used_in l), used_within l)
 
--- a line is one longer than its key and its value
-pub line_length : (key value : List ℕ) → length (key ++ (value ++ LF ∷ [])) ≡ length key + length value + 1
-line_length key value = simp length-append (omega arith)
-
-pub list_short : (key : List ℕ) (k n : ℕ) (a : List ℕ) → length (key ++ (commas (strip_in k n a) ++ LF ∷ [])) ≤ length key + 5 * n + 1
-list_short key k n a = rw (line_length key (commas (strip_in k n a))) (omega (arith, joined_short (λ _. 44) (strip_in k n a), strip_short k n a))
-
-pub left_short : (key : List ℕ) (k n : ℕ) (a : List ℕ) → length (key ++ (or_none (used_in (strip_in k n a)) ++ LF ∷ [])) ≤ length key + 5 * n + 5
-left_short key k n a = rw (line_length key (or_none (used_in (strip_in k n a)))) (omega (arith, used_short (strip_in k n a), strip_short k n a))
-
-pub head_short : (name verdict : List ℕ) → length (head_text name verdict) ≡ length name + length verdict + 14
-head_short name verdict =
-    rw (length-append (field "rig=" name) (field "verdict=" verdict), line_length (bytes "rig=") name, line_length (bytes "verdict=") verdict) (omega arith)
-
 pub place_short : (n : ℕ) → length (place_dec n) ≤ 5
 unfolding place_dec
 place_short n = test (ltb n 10000) (λ t. rw t (omega (arith, dec_short n))) (λ t. rw t (omega arith))
 
 -- ---- the parts
 
--- a strip lies where it is looked for
-pub strip_part : (k n : ℕ) (a : List ℕ) → take (k * limit + n - k * limit) (drop (k * limit) a) ≡ strip_in k n a
-strip_part k n a = let z : k * limit + n - k * limit ≡ n = omega arith in rw z
-
 -- the first two lines, and those behind them
-head_then : (name verdict rest : List ℕ) {a b c : List ℕ} {i j : ℕ} → Laid a 0 (head_text name verdict) b i → Laid b i rest c j
-    → Laid a 0 (field "rig=" name ++ (field "verdict=" verdict ++ rest)) c j
-head_then name verdict rest p q = laid_same (append_assoc (field "rig=" name) (field "verdict=" verdict) rest) (laid_then p q)
+head_then : (name verdict rest : List ℕ) {a b c : Sheet} → LaidOn a (head_text name verdict) b → LaidOn b rest c
+    → LaidOn a (field "rig=" name ++ (field "verdict=" verdict ++ rest)) c
+head_then name verdict rest p q = rw (append_assoc (field "rig=" name) (field "verdict=" verdict) rest) at (laid_on_then p q)
 
-pub solvable_laid : (name : List ℕ) (n number : ℕ) (answer : List ℕ) {index freedom : ℕ} {a b c d e : List ℕ} {i j k l : ℕ}
-    → index ≡ index_in number → freedom ≡ freedom_in number → Laid a 0 (head_text name (bytes "solvable")) b i
-    → Laid b i (field "index=" (dec index)) c j → Laid c j (field "freedom=" (dec freedom)) d k → Laid d k (strips_text n answer) e l
-    → Laid a 0 (solvable_text name n number answer) e l
+pub solvable_laid : (name : List ℕ) (n number : ℕ) (answer : List ℕ) {index freedom : ℕ} {a b c d e : Sheet}
+    → index ≡ index_in number → freedom ≡ freedom_in number → LaidOn a (head_text name (bytes "solvable")) b
+    → LaidOn b (field "index=" (dec index)) c → LaidOn c (field "freedom=" (dec freedom)) d
+    → LaidOn d (field "counts=" (commas (strip_in 0 n answer)) ++ (field "tops=" (commas (strip_in 1 n answer)) ++ (field "pairs=" (commas (strip_in 2 n answer))
+    ++ field "blocks=" (blocks_of (strip_in 3 n answer) (strip_in 4 n answer))))) e
+    → LaidOn a (solvable_text name n number answer) e
 unfolding solvable_text
-solvable_laid name n number answer f g p q r s = head_then name (bytes "solvable") _ p (laid_then (rw f at q) (laid_then (rw g at r) s))
+solvable_laid name n number answer f g p q r s = head_then name (bytes "solvable") _ p (laid_on_then (rw f at q) (laid_on_then (rw g at r) s))
 
-pub singular_laid : (name : List ℕ) (number : ℕ) (answer : List ℕ) {rank : ℕ} {a b c d e : List ℕ} {i j k l : ℕ} → rank ≡ rank_in number
-    → Laid a 0 (head_text name (bytes "singular")) b i → Laid b i (field "rank=" (dec rank)) c j
-    → Laid c j (field "surplus=" (or_none (used_in (strip_in 0 limit answer)))) d k → Laid d k (field "unfixed=" (or_none (used_in (strip_in 1 limit answer)))) e l
-    → Laid a 0 (singular_text name number answer) e l
+pub singular_laid : (name : List ℕ) (number : ℕ) (answer : List ℕ) {rank : ℕ} {a b c d e : Sheet} → rank ≡ rank_in number
+    → LaidOn a (head_text name (bytes "singular")) b → LaidOn b (field "rank=" (dec rank)) c
+    → LaidOn c (field "surplus=" (or_none (used_in (strip_in 0 limit answer)))) d → LaidOn d (field "unfixed=" (or_none (used_in (strip_in 1 limit answer)))) e
+    → LaidOn a (singular_text name number answer) e
 unfolding singular_text
-singular_laid name number answer f p q r s = head_then name (bytes "singular") _ p (laid_then (rw f at q) (laid_then r s))
+singular_laid name number answer f p q r s = head_then name (bytes "singular") _ p (laid_on_then (rw f at q) (laid_on_then r s))
 
-pub refused_laid : (number place : ℕ) {a b c d e : List ℕ} {i j k l : ℕ} → Laid a 0 (field "refused=" (dec number)) b i
-    → Laid b i (bytes "place=") c j → Laid c j (place_dec place) d k → Laid d k (LF ∷ []) e l → Laid a 0 (refused_text number place) e l
+pub refused_laid : (number place : ℕ) {a b c d e : Sheet} → LaidOn a (field "refused=" (dec number)) b
+    → LaidOn b (bytes "place=") c → LaidOn c (place_dec place) d → LaidOn d (LF ∷ []) e → LaidOn a (refused_text number place) e
 unfolding refused_text
-refused_laid number place p q r s = laid_then p (laid_then q (laid_then r s))
+refused_laid number place p q r s = laid_on_then p (laid_on_then q (laid_on_then r s))
 
 -- a place of up to four digits, and of five
-pub place_four : (n : ℕ) {a b : List ℕ} {at next : ℕ} → n < 10000 → Laid a at (dec n) b next → Laid a at (place_dec n) b next
+pub place_four : (n : ℕ) → n < 10000 → dec n ≡ place_dec n
 unfolding place_dec
-place_four n h p = rw (lt-ltb n 10000 h) p
+place_four n h = rw (lt-ltb n 10000 h)
 
-pub place_five : (n : ℕ) {a b : List ℕ} {at next d₁ d₂ d₃ d₄ d₅ : ℕ} → 10000 ≤ n
+pub place_five : (n : ℕ) {d₁ d₂ d₃ d₄ d₅ : ℕ} → 10000 ≤ n
     → d₁ ≡ digit_of (n / 10000) → d₂ ≡ digit_of (n / 1000) → d₃ ≡ digit_of (n / 100) → d₄ ≡ digit_of (n / 10) → d₅ ≡ digit_of n
-    → Laid a at (d₁ ∷ d₂ ∷ d₃ ∷ d₄ ∷ d₅ ∷ []) b next → Laid a at (place_dec n) b next
+    → d₁ ∷ d₂ ∷ d₃ ∷ d₄ ∷ d₅ ∷ [] ≡ place_dec n
 unfolding place_dec
-place_five n h p q r s t w = rw (le-ltb n 10000 h, ← p, ← q, ← r, ← s, ← t) w
-
--- two strips of an answer are of one length
-pub strip_length : (k n : ℕ) (a : List ℕ) → length a ≡ answer_bytes → k ≤ 4 → n ≤ limit → length (strip_in k n a) ≡ n
-strip_length k n a h i j = length-take-le n (drop (k * limit) a) (rw length-drop (omega arith))
-
-pub figure_short : (key : List ℕ) (n : ℕ) → length (key ++ (dec n ++ LF ∷ [])) ≤ length key + 5
-figure_short key n = rw (line_length key (dec n)) (omega (arith, dec_short n))
+place_five n h p q r s t = rw (le-ltb n 10000 h, ← p, ← q, ← r, ← s, ← t)

@@ -14,6 +14,8 @@ use Rattle.laws.proofs.Tests.{clash}
 use Rattle.table.specs.Model.{occurs_at, order_at, rows_of}
 use Rattle.pairing.specs.Pairing.{Rel, Solvable}
 use Rattle.card.specs.Text.{begins}
+use Rattle.card.specs.declared.refusal.Refused.{Refused}
+use Rattle.card.specs.Refusal.{refusal_number}
 use Rattle.card.specs.Card.{refused, good, judged}
 use Rattle.card.proofs.Readable.{good_card}
 use Rattle.card.proofs.Longest.{card_length}
@@ -74,7 +76,8 @@ module _ {input before after : List ℕ} {handed : ℕ} (r : Reported input befo
     other_bytes = let (s, b) = leaves r.printed (let z = r.size in omega arith) in rw (b, s) (drop_at r.text _ (length r.text) refl)
 
     -- of a card that is refused: its number and place
-    pub prints_refused : {number place : ℕ} → length input ≤ input_limit → judged input ≡ refused number place → take handed after ≡ refused_text number place
+    pub prints_refused : {why : Refused} → length input ≤ input_limit → judged input ≡ refused why
+        → take handed after ≡ refused_text (refusal_number why.refusal) why.place
     prints_refused h q = first_bytes ∙ rw q at (r.printed.short h)
 
     module _ {name t : List ℕ} {E U : ℕ} (q : judged input ≡ good name E U t) where

@@ -6,6 +6,7 @@ use Rattle.laws.specs.Text.{bytes}
 use Rattle.table.specs.Model.{occurs_at, order_at, rows_of}
 use Rattle.pairing.specs.Pairing.{Rel, Rank, Solvable}
 use Rattle.card.specs.Text.{LF, comma, digit_of, dec}
+use Rattle.card.specs.Refusal.{refusal_number}
 use Rattle.card.specs.Card.{Judged, refused, good, judged}
 use Rattle.analysis.specs.Outcome.{Worked, worked_index, worked_freedom, Lists}
 
@@ -100,7 +101,7 @@ pub data PrintsModel (name : List ℕ) (E U : ℕ) (edge : Rel) (ord : ℕ → �
 -- ---- What is printed
 
 abbrev pub PrintedOf : Judged → List ℕ → Type 0
-PrintedOf (refused number place) text = text ≡ refused_text number place
+PrintedOf (refused r) text = text ≡ refused_text (refusal_number r.refusal) r.place
 PrintedOf (good name E U table) text = PrintsModel name E U (occurs_at (rows_of E U table)) (order_at (rows_of E U table)) text
 
 -- "19: input above 16,384 bytes", judged first; its place is 0

@@ -1,12 +1,14 @@
 -- What the functions below the entry promise one another.
-use Rattle.std.specs.Prelude.{◌≡◌, List, [], ◌∷◌, ◌++◌, ℕ, ◌*◌, ◌≤◌, eqb, take, drop, replicate}
+use Rattle.std.specs.Prelude.{◌≡◌, Result, Ok, Err, IfOk, List, [], ◌∷◌, ◌++◌, ℕ, ◌*◌, ◌≤◌, eqb, take, drop, replicate}
 use Rattle.laws.specs.Tab.{pick}
 use Rattle.table.specs.Model.{limit}
-use Rattle.card.specs.Text.{LF}
 use Rattle.card.specs.Card.{judged, name_of}
 use Rattle.analysis.specs.Outcome.{code_in, rank_in, index_in, freedom_in, unused, answer_bytes, Reply}
-use Rattle.report.specs.Printed.{field, commas, or_none, blocks_of, solvable_lines, singular_lines, refused_text, Printed}
-use Rattle.report.specs.declared.Findings.{Findings}
+use Rattle.report.specs.Printed.{field, solvable_lines, singular_lines, refused_text, Printed}
+use Rattle.card.specs.Refusal.{refusal_number}
+use Rattle.report.specs.declared.Analysis.{Analysis}
+use Rattle.report.specs.declared.Unfit.{Unfit}
+use Rattle.report.specs.declared.Unfit.TheVariants.{TooLong, Faulty}
 
 -- ---- What the analysis handed back: the bytes of its number (`code_in`, ..), and the strips of its answer
 
@@ -37,35 +39,25 @@ verdict_text name n number answer = pick (eqb (code_in number) 0) (solvable_text
 abbrev pub head_text : List ℕ → List ℕ → List ℕ
 head_text name verdict = field "rig=" name ++ field "verdict=" verdict
 
--- a key, the used places of a strip or `none`, and the line's end
-abbrev pub left_text : List ℕ → ℕ → List ℕ → List ℕ
-left_text key k answer = key ++ (or_none (used_in (strip_in k limit answer)) ++ LF ∷ [])
+-- the number and the place of a card of which nothing is analysed
+abbrev pub unfit_number : Unfit → ℕ
+unfit_number TooLong = 19
+unfit_number (Faulty r) = refusal_number r.refusal
 
--- the blocks of n equations
-abbrev pub order_text : ℕ → List ℕ → List ℕ
-order_text n answer = field "blocks=" (blocks_of (strip_in 3 n answer) (strip_in 4 n answer))
-
--- the five strips of a solvable model
-abbrev pub strips_text : ℕ → List ℕ → List ℕ
-strips_text n answer =
-    field "counts=" (commas (strip_in 0 n answer))
-    ++ (field "tops=" (commas (strip_in 1 n answer))
-    ++ (field "pairs=" (commas (strip_in 2 n answer))
-    ++ order_text n answer))
+abbrev pub unfit_place : Unfit → ℕ
+unfit_place TooLong = 0
+unfit_place (Faulty r) = r.place
 
 -- the text of what was found
-abbrev pub findings_text : List ℕ → Findings → List ℕ
-findings_text name f = pick (eqb f.refused 0) (verdict_text name f.equations f.number f.answer) (refused_text f.refused f.place)
+abbrev pub findings_text : List ℕ → Result Analysis Unfit → List ℕ
+findings_text name (Ok a) = verdict_text name a.equations a.number a.answer
+findings_text name (Err u) = refused_text (unfit_number u) (unfit_place u)
 
-abbrev pub refused_as : ℕ → ℕ → Findings
-refused_as number place = record { refused = number; place = place; equations = 0; number = 0; answer = replicate answer_bytes 0 }
-
-pub record Analysed (E U : ℕ) (table : List ℕ) (f : Findings) : Type 0 where
-  pub good : f.refused ≡ 0
-  pub equations : f.equations ≡ E
-  pub reply : Reply E U table (replicate answer_bytes 0) f.number f.answer
+pub record Analysed (E U : ℕ) (table : List ℕ) (a : Analysis) : Type 0 where
+  pub equations : a.equations ≡ E
+  pub reply : Reply E U table (replicate answer_bytes 0) a.number a.answer
 
 -- what was found is what is printed, and its equations are within the limit
-pub record Examined (input : List ℕ) (f : Findings) : Type 0 where
-  pub printed : Printed input (findings_text (name_of (judged input)) f)
-  pub within : f.equations ≤ limit
+pub record Examined (input : List ℕ) (r : Result Analysis Unfit) : Type 0 where
+  pub printed : Printed input (findings_text (name_of (judged input)) r)
+  pub within : IfOk r (λ a. a.equations ≤ limit)

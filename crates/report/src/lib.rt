@@ -4,16 +4,17 @@
 pub mod list;
 pub mod text;
 
-ghost use Rattle.std.specs.Prelude.{◌≡◌, ◌*◌, ◌≤◌, length};
+ghost use Rattle.std.specs.Prelude.{◌≡◌, ◌≤◌, length, IfOk};
 ghost use Rattle.table.specs.Model.{limit};
 ghost use Rattle.card.specs.Laid.{Laid};
 ghost use Rattle.report.specs.Printed.{Reported};
-ghost use Rattle.report.specs.Steps.{refused_as, findings_text, Analysed, Examined};
+ghost use Rattle.report.specs.Steps.{unfit_number, unfit_place, verdict_text, findings_text, Analysed, Examined};
+ghost use Rattle.report.specs.declared.Unfit.TheVariants.{Faulty};
 
 use crate::text::{put_refused, put_singular, put_solvable};
 use analysis::mudorder_analyse;
 use analysis::strip::ANSWER;
-use card::{name_of, read};
+use card::{Refused, Size, name_of, read};
 use table::CELLS;
 
 // The most bytes of input that are read as a card.
@@ -22,72 +23,96 @@ pub const INPUT_LIMIT: usize = 16384;
 // No text is longer.
 pub const TEXT_LIMIT: usize = 1024;
 
-// What a card comes to: a refusal, or with refused 0 what the analysis handed back.
+// Why nothing of a card is analysed: it is too long to be read, or the reader refuses it.
 #[derive(Clone, Copy)]
-pub struct Findings {
-    pub refused: u8,
-    pub place: usize,
+pub enum Unfit {
+    TooLong,
+    Faulty(Refused),
+}
+
+impl Unfit {
+    fn number(self) -> u8
+        ensures { result ≡ unfit_number self }
+    {
+        match self {
+            Unfit::TooLong => 19,
+            Unfit::Faulty(refused) => refused.refusal.number(),
+        }
+    }
+
+    fn place(self) -> usize
+        ensures { result ≡ unfit_place self }
+    {
+        match self {
+            Unfit::TooLong => 0,
+            Unfit::Faulty(refused) => refused.place,
+        }
+    }
+}
+
+impl From<Refused> for Unfit {
+    ghost from_gives = { λ refused unfit. unfit ≡ Faulty refused };
+
+    fn from(refused: Refused) -> Unfit {
+        Unfit::Faulty(refused)
+    }
+}
+
+// What the analysis handed back of a card.
+#[derive(Clone, Copy)]
+pub struct Analysis {
     pub equations: usize,
     pub number: u64,
     pub answer: [u8; ANSWER],
 }
 
-fn refused(number: u8, place: usize) -> Findings
-    ensures { result ≡ refused_as number place }
+fn analysed(size: Size, table: &[u8]) -> Analysis
+    ensures { Analysed size.equations size.unknowns table.now result }
 {
-    Findings {
-        refused: number,
-        place,
-        equations: 0,
-        number: 0,
-        answer: [0u8; ANSWER],
-    }
-}
-
-fn analysed(equations: usize, unknowns: usize, table: &[u8]) -> Findings
-    ensures { Analysed equations unknowns table.now result }
-{
-    let mut answer = [0u8; ANSWER];
-    let number = mudorder_analyse(equations, unknowns, table, &mut answer);
-    Findings {
-        refused: 0,
-        place: 0,
-        equations,
+    let mut answer = [0; ANSWER];
+    let number = mudorder_analyse(size.equations, size.unknowns, table, &mut answer);
+    Analysis {
+        equations: size.equations,
         number,
         answer,
     }
 }
 
 // The card judged, and a good one analysed.
-fn examined(card: &[u8]) -> Findings
+fn examined(card: &[u8]) -> Result<Analysis, Unfit>
     ensures { Examined card.now result }
 {
     if INPUT_LIMIT < card.len() {
-        return refused(19, 0);
+        return Err(Unfit::TooLong);
     }
-    let mut table = [0u8; CELLS];
-    let reading = read(card, &mut table);
-    if reading.number != 0 {
-        return refused(reading.number, reading.place);
+    let mut table = [0; CELLS];
+    let size = read(card, &mut table)?;
+    let cells = size.equations * size.unknowns;
+    Ok(analysed(size, &table[..cells]))
+}
+
+// The text of what the analysis handed back.
+fn put_analysis(out: &mut [u8], name: &[u8], found: &Analysis) -> usize
+    requires { (length name.now ≤ 24) × (found.now.equations ≤ limit) }
+    ensures { Laid out.old 0 (verdict_text name.now found.now.equations found.now.number found.now.answer) out.new result }
+{
+    let number = found.number;
+    if number % 256 == 0 {
+        put_solvable(out, name, found.equations, number, &found.answer)
+    } else {
+        put_singular(out, name, number, &found.answer)
     }
-    let size = reading.equations * reading.unknowns;
-    analysed(reading.equations, reading.unknowns, &table[..size])
 }
 
 // The text of what was found.
-fn put_text(out: &mut [u8], name: &[u8], found: Findings) -> usize
-    requires { (length name.now ≤ 24) × (found.equations ≤ limit) }
-    ensures { Laid out.old 0 (findings_text name.now found) out.new result }
+fn put_text(out: &mut [u8], name: &[u8], found: &Result<Analysis, Unfit>) -> usize
+    requires { (length name.now ≤ 24) × IfOk found.now (λ analysis. analysis.equations ≤ limit) }
+    ensures { Laid out.old 0 (findings_text name.now found.now) out.new result }
 {
-    if found.refused != 0 {
-        return put_refused(out, found.refused, found.place);
+    match found {
+        Ok(analysis) => put_analysis(out, name, analysis),
+        Err(unfit) => put_refused(out, unfit.number(), unfit.place()),
     }
-    let answer = found.answer;
-    let number = found.number;
-    if number % 256 == 0 {
-        return put_solvable(out, name, found.equations, number, &answer);
-    }
-    put_singular(out, name, number, &answer)
 }
 
 // The printed result of a card: hands back its length, and writes it into the first bytes where there is room for all of it. It asks nothing of its
@@ -97,9 +122,9 @@ pub fn report(card: &[u8], out: &mut [u8]) -> usize
 {
     let found = examined(card);
     let name = name_of(card);
-    let length = put_text(&mut out[..0], name, found);
+    let length = put_text(&mut out[..0], name, &found);
     if out.len() < length {
         return length;
     }
-    put_text(out, name, found)
+    put_text(out, name, &found)
 }

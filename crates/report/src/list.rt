@@ -1,43 +1,36 @@
 // Lists of numbers, laid as text.
-ghost use Rattle.std.specs.Prelude.{◌≡◌, ◌∷◌, ◌+◌, ◌*◌, ◌^◌, ◌≤◌, ◌<◌, length};
-ghost use Rattle.card.specs.Text.{dec};
-ghost use Rattle.card.specs.Laid.{Laid};
-ghost use Rattle.report.specs.Printed.{commas, split_of, blocks_of, or_none};
+ghost use Rattle.std.specs.Prelude.{◌≡◌, ◌==◌, ℕ, ◌+◌, ◌*◌, ◌^◌, ◌≤◌, ◌<◌, length, position};
+ghost use Rattle.analysis.specs.Outcome.{unused};
+ghost use Rattle.card.specs.Laid.{LaidOn};
+ghost use Rattle.report.specs.Printed.{joined, commas, split_of, blocks_of, or_none};
 ghost use Rattle.report.specs.Steps.{used_in};
 
 use analysis::strip::UNUSED;
-use card::put::{put, put_all, put_number};
+use card::put::Sheet;
 
-fn wide(number: u8) -> usize
-    ensures { result ≡ number }
+// Numbers, where split(i) is what splits place i from the next.
+fn put_joined<F: Fn(usize) -> u8>(sheet: &mut Sheet, numbers: &[u8], split: F)
+    requires few { sheet.old.at + 5 * length numbers.now < 2 ^ 64 }
+    requires callable { (i : ℕ) → i + 1 < length numbers.now → F.pre split i }
+    ensures { (f : ℕ → ℕ) → ((i : ℕ) (b : ℕ) → i + 1 < length numbers.now → F.post split i b → b ≡ f i)
+        → LaidOn sheet.old (joined f numbers.now) sheet.new }
 {
-    number as usize
-}
-
-// One more number, behind the byte that splits it from the one before.
-fn put_further(out: &mut [u8], at: usize, split: u8, number: u8) -> usize
-    requires { at + 5 < 2 ^ 64 }
-    ensures { Laid out.old at (split ∷ dec number) out.new result }
-{
-    let behind = put(out, at, split);
-    put_number(out, behind, wide(number))
+    let Some((&first, others)) = numbers.split_first() else {
+        return;
+    };
+    sheet.put_number(usize::from(first));
+    for (i, &number) in others.iter().enumerate() {
+        sheet.put(split(i));
+        sheet.put_number(usize::from(number));
+    }
 }
 
 // Numbers by commas.
-pub fn put_commas(out: &mut [u8], at: usize, numbers: &[u8]) -> usize
-    requires { at + 5 * length numbers.now < 2 ^ 64 }
-    ensures { Laid out.old at (commas numbers.now) out.new result }
+pub fn put_commas(sheet: &mut Sheet, numbers: &[u8])
+    requires { sheet.old.at + 5 * length numbers.now < 2 ^ 64 }
+    ensures { LaidOn sheet.old (commas numbers.now) sheet.new }
 {
-    if numbers.len() == 0 {
-        return at;
-    }
-    let mut next = put_number(out, at, wide(numbers[0]));
-    let mut i = 1;
-    while i < numbers.len() {
-        next = put_further(out, next, b',', numbers[i]);
-        i += 1;
-    }
-    next
+    put_joined(sheet, numbers, |_| b',');
 }
 
 // What splits two neighbours with these block numbers.
@@ -48,45 +41,41 @@ fn split_of(block: u8, other: u8) -> u8
 }
 
 // The equations in solving order, with the block number of each place.
-pub fn put_blocks(out: &mut [u8], at: usize, order: &[u8], block: &[u8]) -> usize
-    requires { (at + 5 * length order.now < 2 ^ 64) × (length order.now ≤ length block.now) }
-    ensures { Laid out.old at (blocks_of order.now block.now) out.new result }
+pub fn put_blocks(sheet: &mut Sheet, order: &[u8], block: &[u8])
+    requires { (sheet.old.at + 5 * length order.now < 2 ^ 64) × (length order.now ≤ length block.now) }
+    ensures { LaidOn sheet.old (blocks_of order.now block.now) sheet.new }
 {
-    if order.len() == 0 {
-        return at;
-    }
-    let mut next = put_number(out, at, wide(order[0]));
-    let mut i = 1;
-    while i < order.len() {
-        let split = split_of(block[i - 1], block[i]);
-        next = put_further(out, next, split, order[i]);
-        i += 1;
-    }
-    next
+    put_joined(sheet, order, |i| split_of(block[i], block[i + 1]));
 }
 
-// How many places of a strip are used.
-fn used(strip: &[u8]) -> usize
-    ensures { result ≡ length (used_in strip.now) }
+// Where the first unused place of a strip stands.
+fn first_unused(strip: &[u8]) -> Option<usize>
+    ensures { result ≡ position (λ place. place == unused) strip.now }
 {
-    let mut i = 0;
-    while i < strip.len() {
-        if strip[i] == UNUSED {
-            return i;
-        }
-        i += 1;
+    strip.iter().position(|&place| place == UNUSED)
+}
+
+// The used places of a strip.
+#[tactic(auto, using(crate::proofs::ListLaws::used_before, crate::proofs::ListLaws::used_all))]
+fn used(strip: &[u8]) -> &[u8]
+    ensures { result.now ≡ used_in strip.now }
+{
+    match first_unused(strip) {
+        Some(count) => &strip[..count],
+        None => strip,
     }
-    i
 }
 
 // The used places of a strip by commas, or `none`.
-pub fn put_used(out: &mut [u8], at: usize, strip: &[u8]) -> usize
-    requires { at + 5 * length strip.now + 4 < 2 ^ 64 }
-    ensures { Laid out.old at (or_none (used_in strip.now)) out.new result }
+#[tactic(auto, using(crate::proofs::ListLaws::none_text, crate::proofs::ListLaws::some_text, crate::proofs::ListLaws::used_within))]
+pub fn put_used(sheet: &mut Sheet, strip: &[u8])
+    requires { sheet.old.at + 5 * length strip.now + 4 < 2 ^ 64 }
+    ensures { LaidOn sheet.old (or_none (used_in strip.now)) sheet.new }
 {
-    let count = used(strip);
-    if count == 0 {
-        return put_all(out, at, b"none");
+    let list = used(strip);
+    if list.is_empty() {
+        sheet.put_all(b"none");
+    } else {
+        put_commas(sheet, list);
     }
-    put_commas(out, at, &strip[..count])
 }

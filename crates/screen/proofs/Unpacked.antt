@@ -5,25 +5,19 @@ use mathlib.Core.List.{List}
 use Prim.Native.Nat.{ℕ, ◌≤◌}
 use native.Mathlib.Omega.{arith}
 use lib.ListN.{length}
-use Rattle.card.specs.Card.{Judged, refused, good, judged, read_of, name_of, name_at, card_of, write_of, card_after}
+use Rattle.card.specs.Card.{Judged, refused, good, judged, read_of, name_of, name_at, write_of}
 use Rattle.card.specs.Promise.{ReadDone, WriteDone}
-use Rattle.card.specs.declared.Reading.{Reading}
-use Rattle.card.specs.declared.Writing.{Writing}
+use Rattle.card.specs.Refusal.{number_in, place_in, equations_in, unknowns_in, length_in}
+use Rattle.card.specs.declared.refusal.Refused.{Refused}
+use Rattle.card.specs.declared.Size.{Size}
+use Rattle.std.specs.Prelude.{Result}
 use Rattle.card.proofs.Theorems.{ReadFits, read_fits, WriteFits, write_fits, name_fits, name_length}
-use Rattle.screen.specs.Packed.{packed_card, read_number, write_number, name_number, ReadPacked, WritePacked, NamePacked}
+use Rattle.screen.specs.Packed.{read_number, write_number, name_number, ReadPacked, WritePacked, NamePacked}
 use Rattle.screen.specs.Packed.{first_in, second_in, fourth_in, fifth_in, two_from_fourth_in}
 
 -- ---- the contracts
 
-pub read_packed : {s before after : List ℕ} {r : Reading} {n : ℕ} → ReadDone s before r after → n ≡ read_number r → ReadPacked s before n after
-read_packed k e = record { answer = e ∙ ap read_number k.answer; bytes = k.bytes }
-
-pub write_packed : {name t before after : List ℕ} {E U : ℕ} {r : Writing} {n : ℕ} → WriteDone name E U t before r after → n ≡ write_number r
-    → WritePacked name E U t before n after
-write_packed {name} {t} {before} {after} {E} {U} k e =
-    record { answer = e ∙ ap write_number k.answer; bytes = k.bytes ∙ ap (λ r. card_after before r (card_of name E U t)) k.answer }
-
--- and back: the promise of `card` for what was packed_card
+-- the promise of `card` for what was packed
 pub read_done : {s before after : List ℕ} {n : ℕ} → ReadPacked s before n after → ReadDone s before (read_of (length before) (judged s)) after
 read_done k = record { answer = refl; bytes = k.bytes }
 
@@ -31,50 +25,43 @@ pub write_done : {name t before after : List ℕ} {E U n : ℕ} → WritePacked 
     → WriteDone name E U t before (write_of (length before) name E U t) after
 write_done k = record { answer = refl; bytes = k.bytes }
 
--- an empty part is a refusal's, and any other starts behind `rig=`
+-- an empty part is a refusal's
 pub name_none : (s : List ℕ) {part : List ℕ} → part ≡ name_of (judged s) → length part ≡ 0 → NamePacked s 0
 name_none s {part} e h = go (judged s) refl
   where
     go : (j : Judged) → judged s ≡ j → NamePacked s 0
-    go (refused m at) p = record { answer = rw p }
+    go (refused m) p = record { answer = rw p }
     go (good name E U t) p =
         let z : part ≡ name = e ∙ ap name_of p in
         let l = (name_length s name E U t p).0 in
         let n : length name ≡ 0 = rw z at h in
         absurd (omega arith)
 
-pub name_some : (s : List ℕ) {part : List ℕ} {n : ℕ} → part ≡ name_of (judged s) → (length part ≡ 0 → ⊥) → n ≡ packed_card (length part) 4 0 0 → NamePacked s n
-name_some s {part} {n} e h q = go (judged s) refl
-  where
-    go : (j : Judged) → judged s ≡ j → NamePacked s n
-    go (refused m at) p = let z : part ≡ name_of (refused m at) = e ∙ ap name_of p in absurd (h (rw z))
-    go (good name E U t) p = let z : part ≡ name = e ∙ ap name_of p in record { answer = rw p (q ∙ rw z) }
-
 -- ---- nothing is cut short
 
-pub record ReadWhole (r : Reading) (n : ℕ) : Type 0 where
-  pub number : first_in n ≡ r.number
-  pub place : second_in n ≡ r.place
-  pub equations : fourth_in n ≡ r.equations
-  pub unknowns : fifth_in n ≡ r.unknowns
+pub record ReadWhole (r : Result Size Refused) (n : ℕ) : Type 0 where
+  pub number : first_in n ≡ number_in r
+  pub place : second_in n ≡ place_in r
+  pub equations : fourth_in n ≡ equations_in r
+  pub unknowns : fifth_in n ≡ unknowns_in r
 
 pub read_whole : {s before after : List ℕ} {n : ℕ} → ReadPacked s before n after → ReadWhole (read_of (length before) (judged s)) n
 read_whole {s} {before} {after} {n} k = whole (read_of (length before) (judged s)) (read_fits (read_done k)) k.answer
   where
-    whole : (r : Reading) → ReadFits s r → n ≡ read_number r → ReadWhole r n
+    whole : (r : Result Size Refused) → ReadFits s r → n ≡ read_number r → ReadWhole r n
     whole r f e =
         let a = f.number in let b = f.place in let c = f.equations in let d = f.unknowns in
         record { number = omega arith; place = omega arith; equations = omega arith; unknowns = omega arith }
 
-pub record WriteWhole (r : Writing) (n : ℕ) : Type 0 where
-  pub number : first_in n ≡ r.number
-  pub place : second_in n ≡ r.place
-  pub length_is : two_from_fourth_in n ≡ r.length
+pub record WriteWhole (r : Result ℕ Refused) (n : ℕ) : Type 0 where
+  pub number : first_in n ≡ number_in r
+  pub place : second_in n ≡ place_in r
+  pub length_is : two_from_fourth_in n ≡ length_in r
 
 pub write_whole : {name t before after : List ℕ} {E U n : ℕ} → WritePacked name E U t before n after → WriteWhole (write_of (length before) name E U t) n
 write_whole {name} {t} {before} {after} {E} {U} {n} k = whole (write_of (length before) name E U t) (write_fits (write_done k)) k.answer
   where
-    whole : (r : Writing) → WriteFits r → n ≡ write_number r → WriteWhole r n
+    whole : (r : Result ℕ Refused) → WriteFits r → n ≡ write_number r → WriteWhole r n
     whole r f e =
         let a = f.number in let b = f.place in let c = f.length_fits in
         record { number = omega arith; place = omega arith; length_is = omega arith }
@@ -89,5 +76,5 @@ name_whole {s} {n} k =
     record { long = a; place = b }
   where
     go : (j : Judged) → n ≡ name_number j → length (name_of j) ≤ 24 → (first_in n ≡ length (name_of j)) × (second_in n ≡ name_at j)
-    go (refused m at) q l = (omega arith, omega arith)
+    go (refused m) q l = (omega arith, omega arith)
     go (good name E U t) q l = (omega arith, omega arith)

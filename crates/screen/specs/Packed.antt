@@ -1,24 +1,25 @@
 -- The numbers that the card's entries hand back, each as one number for the C calling form.
-use Rattle.std.specs.Prelude.{◌≡◌, List, ℕ, ◌+◌, ◌*◌, ◌/◌, ◌%◌, length, take, drop}
+use Rattle.std.specs.Prelude.{◌≡◌, Result, List, ℕ, ◌+◌, ◌*◌, ◌/◌, ◌%◌, length, take, drop}
 use Rattle.card.specs.Card.{Judged, judged, read_of, table_of, name_of, name_at, card_of, write_of, card_after}
-use Rattle.card.specs.declared.Reading.{Reading}
-use Rattle.card.specs.declared.Writing.{Writing}
+use Rattle.card.specs.Refusal.{number_in, place_in, equations_in, unknowns_in, length_in}
+use Rattle.card.specs.declared.refusal.Refused.{Refused}
+use Rattle.card.specs.declared.Size.{Size}
 
 -- from the lowest byte: a byte, two bytes, low first, and what stands in the fourth and from the fifth byte on
 abbrev pub packed_card : ℕ → ℕ → ℕ → ℕ → ℕ
 packed_card first second fourth fifth = first + second * 256 + fourth * 16777216 + fifth * 4294967296
 
 -- the reader: number, place in two bytes, E, U, then 0
-abbrev pub read_number : Reading → ℕ
-read_number r = packed_card r.number r.place r.equations r.unknowns
+abbrev pub read_number : Result Size Refused → ℕ
+read_number r = packed_card (number_in r) (place_in r) (equations_in r) (unknowns_in r)
 
 pub record ReadPacked (card before : List ℕ) (number : ℕ) (after : List ℕ) : Type 0 where
   pub answer : number ≡ read_number (read_of (length before) (judged card))
   pub bytes : after ≡ table_of before (judged card)
 
 -- the writer: number, place in two bytes, length in two bytes, then 0
-abbrev pub write_number : Writing → ℕ
-write_number w = packed_card w.number w.place w.length 0
+abbrev pub write_number : Result ℕ Refused → ℕ
+write_number w = packed_card (number_in w) (place_in w) (length_in w) 0
 
 pub record WritePacked (name : List ℕ) (E U : ℕ) (table before : List ℕ) (number : ℕ) (after : List ℕ) : Type 0 where
   pub answer : number ≡ write_number (write_of (length before) name E U table)

@@ -4,10 +4,11 @@
 
 ghost use Rattle.std.specs.Prelude.{◌≡◌, ◌≤◌};
 ghost use Rattle.analysis.specs.Outcome.{Reply};
+ghost use Rattle.card.specs.Refusal.{refusal_number};
 ghost use Rattle.report.specs.Printed.{Reported};
 ghost use Rattle.screen.specs.Packed.{packed_card, ReadPacked, WritePacked, NamePacked};
 
-use card::{name_of, read, write};
+use card::{Refused, name_of, read, write};
 use report::report;
 
 // Numbers as one, from the lowest byte: a byte, two bytes, low first, and what stands in the fourth and from the fifth byte on.
@@ -21,18 +22,22 @@ fn pack(first: usize, second: usize, fourth: usize, fifth: usize) -> u64
         + (fifth as u64) * 4294967296
 }
 
+fn pack_refused(refused: Refused) -> u64
+    requires { refused.place ≤ 65535 }
+    ensures { result ≡ packed_card (refusal_number refused.refusal) refused.place 0 0 }
+{
+    pack(usize::from(refused.refusal.number()), refused.place, 0, 0)
+}
+
 // The reader: from the lowest byte number, place (two bytes, low first), E, U, then 0.
 #[unsafe(no_mangle)]
 pub extern "C" fn mudorder_read(card: &[u8], table: &mut [u8]) -> u64
     ensures { ReadPacked card.now table.old result table.new }
 {
-    let reading = read(card, table);
-    pack(
-        reading.number as usize,
-        reading.place,
-        reading.equations,
-        reading.unknowns,
-    )
+    match read(card, table) {
+        Ok(size) => pack(0, 0, size.equations, size.unknowns),
+        Err(refused) => pack_refused(refused),
+    }
 }
 
 // The writer: from the lowest byte number, place (two bytes), length (two bytes), then 0.
@@ -46,8 +51,10 @@ pub extern "C" fn mudorder_write(
 ) -> u64
     ensures { WritePacked name.now equations unknowns table.now card.old result card.new }
 {
-    let writing = write(name, equations, unknowns, table, card);
-    pack(writing.number as usize, writing.place, writing.length, 0)
+    match write(name, equations, unknowns, table, card) {
+        Ok(length) => pack(0, 0, length, 0),
+        Err(refused) => pack_refused(refused),
+    }
 }
 
 // The name question: from the lowest byte the length of the part that holds the name, its offset in the card (two bytes), then 0.
@@ -56,7 +63,7 @@ pub extern "C" fn mudorder_name(card: &[u8]) -> u64
     ensures { NamePacked card.now result }
 {
     let part = name_of(card);
-    if part.len() == 0 {
+    if part.is_empty() {
         return 0;
     }
     pack(part.len(), 4, 0, 0)

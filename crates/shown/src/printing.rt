@@ -34,15 +34,15 @@ pub fn print_next<W: Write>(out: &mut W, split: &[u8], first: bool, number: u8) 
     if !first {
         print(out, split)?;
     }
-    print_number(out, number as u64)
+    print_number(out, u64::from(number))
 }
 
 pub fn print_numbers<W: Write>(out: &mut W, split: &[u8], numbers: &[u8]) -> io::Result<()>
     ensures { OnOk result (Appends (W.contents out.old) (W.contents out.new)
         (listed split.now numbers.now (length numbers.now))) }
 {
-    for i in 0..numbers.len() {
-        print_next(out, split, i == 0, numbers[i])?;
+    for (i, &number) in numbers.iter().enumerate() {
+        print_next(out, split, i == 0, number)?;
     }
     Ok(())
 }

@@ -1,13 +1,12 @@
 -- `screen::mudorder_read` meets its contract: the reader's numbers, each in its place.
 use Rattle.card.proofs.Theorems.{read_fits}
-use Rattle.screen.proofs.Unpacked.{read_packed}
 use native.Mathlib.Omega.{arith}
 use Rattle.screen.proofs.mudorder_read.Goals as goal
 
 pub pack-requires : goal.pack-requires
 pack-requires c =
-    let f = read_fits c.read-reading.ensures in
-    (omega (arith, f.number), omega (arith, f.place), omega (arith, f.equations), omega (arith, f.unknowns))
+    let f = read_fits c.in-Ok.ensures in
+    (omega arith, omega arith, omega (arith, f.equations), omega (arith, f.unknowns))
 
-pub returns : goal.returns
-returns c = read_packed c.read-reading.ensures c.pack.ensures
+pub pack_refused-requires : goal.pack_refused-requires
+pack_refused-requires c = omega (arith, (read_fits c.in-Err.ensures).place)

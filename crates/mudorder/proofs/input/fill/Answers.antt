@@ -23,12 +23,12 @@ loop-done-preserved g c =
     let from = c.loop-done.done in
     let room = length c.loop-done.buffer - from in
     let within = c.loop-done.invariant.within in
-    let part = slice_range-put_mid from room c.in-Ok.count c.loop-done.buffer c.read.new.buf within c.in-Ok.ensures.bound.0 in
-    let joined = take_split from c.in-Ok.count c.loop-done.buffer (put_mid from room c.loop-done.buffer c.read.new.buf)
+    let part = slice_range-put_mid from room c.in_ok-count.count c.loop-done.buffer c.read.new.buf within c.in_ok-count.ensures.bound.0 in
+    let joined = take_split from c.in_ok-count.count c.loop-done.buffer (put_mid from room c.loop-done.buffer c.read.new.buf)
     (take-put_mid_below _ _ _ _ _ (le_refl _) within) in
     record {
       stays = search rules;
       within = search rules;
       given = subst (Consumes _ _) (ap (λ l. take from c.loop-done.buffer ++ l) (sym part) ∙ joined)
-          (Consumes-trans _ _ _ _ _ c.loop-done.invariant.given c.in-Ok.ensures.bytes.0);
+          (Consumes-trans _ _ _ _ _ c.loop-done.invariant.given c.in_ok-count.ensures.bytes.0);
     }
