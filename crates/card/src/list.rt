@@ -9,7 +9,7 @@ ghost use Rattle.card.specs.Steps.{last_equation, last_unknown, said_in, end_sai
 use crate::entry::{Entry, Occurrence, line_entry};
 use crate::head::Limits;
 use crate::refusal::{Refusal, Refused};
-use crate::text::line_at;
+use crate::text::line_end;
 use table::CELLS;
 use table::number::{Counted, Equation, Unknown};
 
@@ -75,7 +75,7 @@ fn read_pair(
 fn read_turn(card: &[u8], at: usize, limits: Limits, last: Option<Pair>) -> Result<Turn, Refused>
     ensures { said_in result ≡ turn_of limits.equations limits.unknowns (last_equation last) (last_unknown last) at (lines_of (drop at card.now)) }
 {
-    let end = line_at(card, at).ok_or(Refusal::Shape.at(at))?;
+    let end = line_end(card, at)?;
     let next = end + 1;
     match line_entry(&card[at..end]).ok_or(Refusal::Shape.at(at))? {
         Entry::End(count) => Ok(Turn::Last { count, next }),
