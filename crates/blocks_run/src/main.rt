@@ -3,69 +3,61 @@
 // independent computation.
 #![tactic(auto)]
 
-ghost use Rattle.std.specs.Prelude.{◌≤◌};
+ghost use Rattle.std.specs.Prelude.{◌≤◌, ◌<◌, length};
 ghost use Rattle.table.specs.Model.{limit};
 ghost use Rattle.counts.specs.Work.{Pairable};
 
 use blocks::place::{Placing, solve_order};
 use counts::lead::leading_rows;
-use counts::raise::least;
+use counts::raise::{Choice, least};
 use pairing::first::first;
-use pairing::left::left_over;
-use shown::printing::{print, print_next, print_number};
+use shown::judged::paired_rows;
+use shown::models;
+use shown::printing::{print, print_number, print_numbers};
 use shown::sample::band;
 use std::io;
 use std::io::Write;
-use table::LIMIT;
-use table::judge::{first_above, well_sized};
-use table::number::Unknown;
-use table::rows::filled;
+use table::number::numbers;
+use table::{LIMIT, Rows};
 
-fn print_partners<W: Write>(out: &mut W, partners: [Unknown; LIMIT], n: usize) -> io::Result<()>
-    requires { n ≤ limit }
+// What stands before a place: a semicolon where a block begins, a comma inside one.
+fn split_before(block: &[u8], place: usize) -> &[u8]
+    requires { place < length block.now }
 {
-    for e in 0..n {
-        print_next(out, b",", e == 0, partners[e].0)?;
-    }
-    Ok(())
-}
-
-// A semicolon where a block ends, a comma inside one.
-fn print_split<W: Write>(out: &mut W, before: u8, number: u8) -> io::Result<()> {
-    if before == number {
-        print(out, b",")
+    if place == 0 {
+        b""
+    } else if block[place - 1] == block[place] {
+        b","
     } else {
-        print(out, b";")
+        b";"
     }
 }
 
 fn print_blocks<W: Write>(out: &mut W, placing: Placing, n: usize) -> io::Result<()>
     requires { n ≤ limit }
 {
-    let order = placing.order;
-    let block = placing.block;
-    for i in 0..n {
-        if 0 < i {
-            print_split(out, block[i - 1], block[i])?;
-        }
-        print_number(out, order[i].0 as u64)?;
+    let Placing { order, block, .. } = placing;
+    for (place, &number) in numbers(order)[..n].iter().enumerate() {
+        print(out, split_before(&block, place))?;
+        print_number(out, u64::from(number))?;
     }
     Ok(())
 }
 
 // A solvable model.
-fn print_answer<W: Write>(out: &mut W, n: usize, table: &[[u8; LIMIT]; LIMIT]) -> io::Result<()>
-    requires { Pairable n table.now }
+fn print_answer<W: Write>(out: &mut W, n: usize, rows: &Rows) -> io::Result<()>
+    requires { Pairable n rows.now }
 {
-    let choice = least(table, n);
-    let counts = choice.counts;
-    let tops = choice.tops;
-    let holders = choice.holders;
-    let leading = leading_rows(table, n, &counts, &tops);
+    let Choice {
+        counts,
+        tops,
+        holders,
+    } = least(rows, n);
+    let leading = leading_rows(rows, n, &counts, &tops);
     let partners = first(&leading, n, holders);
     let placing = solve_order(&leading, n, partners);
     print(out, b" pairs=")?;
-    print_partners(out, partners, n)?;
+    print_numbers(out, b",", &numbers(partners)[..n])?;
     print(out, b" blocks=")?;
     print_blocks(out, placing, n)
 }
@@ -73,24 +65,18 @@ fn print_answer<W: Write>(out: &mut W, n: usize, table: &[[u8; LIMIT]; LIMIT]) -
 // A model of n equations and n unknowns, from its lent table.
 fn show<W: Write>(out: &mut W, name: &[u8], n: usize, bytes: &[u8]) -> io::Result<()> {
     print(out, name)?;
-    if well_sized(n, n, bytes) {
-        if first_above(bytes) == bytes.len() {
-            let table = filled(n, n, bytes);
-            let left = left_over(&table, n, n);
-            if left.rank as usize == n {
-                print_answer(out, n, &table)?;
-            }
-        }
+    if let Ok(rows) = &paired_rows(n, bytes) {
+        print_answer(out, n, rows)?;
     }
     print(out, b"\n")
 }
 
 fn lettered<W: Write>(out: &mut W) -> io::Result<()> {
-    show(out, b"A", 3, &[2, 0, 1, 0, 1, 1, 1, 0, 0])?;
-    show(out, b"G", 2, &[1, 1, 1, 1])?;
-    show(out, b"H", 2, &[1, 1, 1, 0])?;
-    show(out, b"J", 2, &[1, 0, 4, 1])?;
-    show(out, b"K", 3, &[3, 0, 1, 0, 3, 1, 1, 1, 0])
+    show(out, b"A", 3, &models::A)?;
+    show(out, b"G", 2, &models::G)?;
+    show(out, b"H", 2, &models::H)?;
+    show(out, b"J", 2, &models::J)?;
+    show(out, b"K", 3, &models::K)
 }
 
 fn examples<W: Write>(out: &mut W) -> io::Result<()> {

@@ -8,52 +8,44 @@ ghost use Rattle.counts.specs.Work.{Pairable};
 
 use counts::figures::{freedom, index};
 use counts::lead::leading_rows;
-use counts::raise::least;
-use pairing::left::left_over;
+use counts::raise::{Choice, least};
+use shown::judged::{Unpaired, paired_rows};
+use shown::models;
 use shown::printing::{print, print_figure, print_line};
 use shown::sample::band;
 use std::io;
 use std::io::Write;
-use table::LIMIT;
-use table::judge::{first_above, well_sized};
-use table::rows::filled;
+use table::{LIMIT, Row, Rows};
 
 // The first n of the numbers, on a line of their own.
-fn print_first<W: Write>(
-    out: &mut W,
-    label: &[u8],
-    n: usize,
-    numbers: [u8; LIMIT],
-) -> io::Result<()>
+fn print_first<W: Write>(out: &mut W, label: &[u8], n: usize, numbers: &Row) -> io::Result<()>
     requires { n ≤ limit }
 {
     print_line(out, label, b",", &numbers[..n])
 }
 
 // One row to a line.
-fn print_rows<W: Write>(out: &mut W, n: usize, rows: &[[u8; LIMIT]; LIMIT]) -> io::Result<()>
+fn print_rows<W: Write>(out: &mut W, n: usize, rows: &Rows) -> io::Result<()>
     requires { n ≤ limit }
 {
-    for e in 0..n {
-        print_first(out, b"", n, rows[e])?;
+    for row in &rows[..n] {
+        print_first(out, b"", n, row)?;
     }
     Ok(())
 }
 
 // A solvable model.
-fn print_answer<W: Write>(out: &mut W, n: usize, table: &[[u8; LIMIT]; LIMIT]) -> io::Result<()>
-    requires { Pairable n table.now }
+fn print_answer<W: Write>(out: &mut W, n: usize, rows: &Rows) -> io::Result<()>
+    requires { Pairable n rows.now }
 {
-    let choice = least(table, n);
-    let counts = choice.counts;
-    let tops = choice.tops;
-    let leading = leading_rows(table, n, &counts, &tops);
+    let Choice { counts, tops, .. } = least(rows, n);
+    let leading = leading_rows(rows, n, &counts, &tops);
     let free = freedom(n, &counts, &tops);
     let highest = index(n, &counts);
-    print_first(out, b"counts=", n, counts)?;
-    print_first(out, b"tops=", n, tops)?;
-    print_figure(out, b"index=", highest as u64)?;
-    print_figure(out, b"\nfreedom=", free as u64)?;
+    print_first(out, b"counts=", n, &counts)?;
+    print_first(out, b"tops=", n, &tops)?;
+    print_figure(out, b"index=", u64::from(highest))?;
+    print_figure(out, b"\nfreedom=", u64::from(free))?;
     print(out, b"\n")?;
     print_rows(out, n, &leading)
 }
@@ -62,30 +54,25 @@ fn print_answer<W: Write>(out: &mut W, n: usize, table: &[[u8; LIMIT]; LIMIT]) -
 fn show<W: Write>(out: &mut W, name: &[u8], n: usize, bytes: &[u8]) -> io::Result<()> {
     print(out, name)?;
     print(out, b"\n")?;
-    if well_sized(n, n, bytes) {
-        if first_above(bytes) == bytes.len() {
-            let table = filled(n, n, bytes);
-            let left = left_over(&table, n, n);
-            if left.rank as usize == n {
-                print_answer(out, n, &table)?;
-            } else {
-                print_figure(out, b"singular rank=", left.rank as u64)?;
-                print(out, b"\n")?;
-            }
+    match &paired_rows(n, bytes) {
+        Ok(rows) => print_answer(out, n, rows),
+        Err(Unpaired::Singular(rank)) => {
+            print_figure(out, b"singular rank=", u64::from(*rank))?;
+            print(out, b"\n")
         }
+        Err(Unpaired::Misshapen) => Ok(()),
     }
-    Ok(())
 }
 
 fn main(rt: HostRuntime) -> io::Result<()> {
     let out = &mut rt.stdout();
-    show(out, b"A", 3, &[2, 0, 1, 0, 1, 1, 1, 0, 0])?;
-    show(out, b"C", 3, &[2, 0, 1, 1, 0, 0, 1, 0, 0])?;
-    show(out, b"D", 1, &[4])?;
-    show(out, b"G", 2, &[1, 1, 1, 1])?;
-    show(out, b"H", 2, &[1, 1, 1, 0])?;
-    show(out, b"J", 2, &[1, 0, 4, 1])?;
-    show(out, b"K", 3, &[3, 0, 1, 0, 3, 1, 1, 1, 0])?;
+    show(out, b"A", 3, &models::A)?;
+    show(out, b"C", 3, &models::C)?;
+    show(out, b"D", 1, &models::D)?;
+    show(out, b"G", 2, &models::G)?;
+    show(out, b"H", 2, &models::H)?;
+    show(out, b"J", 2, &models::J)?;
+    show(out, b"K", 3, &models::K)?;
     show(
         out,
         b"pendulum",

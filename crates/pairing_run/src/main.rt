@@ -5,50 +5,45 @@
 ghost use Rattle.std.specs.Prelude.{◌≤◌};
 ghost use Rattle.table.specs.Model.{limit};
 
-use pairing::left::left_over;
+use pairing::Marks;
+use pairing::left::{Left, left_over};
+use shown::models;
 use shown::printing::{print, print_figure, print_next};
 use shown::sample::band;
 use std::io;
 use std::io::Write;
 use table::judge::well_sized;
 use table::rows::filled;
-use table::{CELLS, LIMIT};
+use table::{CELLS, LIMIT, Rows};
 
 // The numbers of what is marked, by commas, or none.
-fn print_marked<W: Write>(
-    out: &mut W,
-    label: &[u8],
-    n: usize,
-    marks: &[bool; LIMIT],
-) -> io::Result<()>
+fn print_marked<W: Write>(out: &mut W, label: &[u8], n: usize, marks: &Marks) -> io::Result<()>
     requires { n ≤ limit }
 {
     print(out, label)?;
-    let mut first = true;
-    for i in 0..n {
-        if marks[i] {
-            print_next(out, b",", first, (i + 1) as u8)?;
-            first = false;
-        }
+    if !marks[..n].contains(&true) {
+        return print(out, b"none");
     }
-    if first {
-        print(out, b"none")?;
+    for (at, i) in (0..n).filter(|&i| marks[i]).enumerate() {
+        print_next(out, b",", at == 0, (i + 1) as u8)?;
     }
     Ok(())
 }
 
 fn print_left<W: Write>(
     out: &mut W,
-    table: &[[u8; LIMIT]; LIMIT],
+    table: &Rows,
     equations: usize,
     unknowns: usize,
 ) -> io::Result<()>
     requires { (equations ≤ limit) × (unknowns ≤ limit) }
 {
-    let left = left_over(table, equations, unknowns);
-    let surplus = left.surplus;
-    let unfixed = left.unfixed;
-    print_figure(out, b" rank=", left.rank as u64)?;
+    let Left {
+        rank,
+        surplus,
+        unfixed,
+    } = left_over(table, equations, unknowns);
+    print_figure(out, b" rank=", u64::from(rank))?;
     print_marked(out, b" surplus=", equations, &surplus)?;
     print_marked(out, b" unfixed=", unknowns, &unfixed)
 }
@@ -72,10 +67,10 @@ fn show<W: Write>(
 
 fn main(rt: HostRuntime) -> io::Result<()> {
     let out = &mut rt.stdout();
-    show(out, b"A", 3, 3, &[2, 0, 1, 0, 1, 1, 1, 0, 0])?;
-    show(out, b"B", 2, 3, &[2, 0, 1, 0, 1, 1])?;
-    show(out, b"C", 3, 3, &[2, 0, 1, 1, 0, 0, 1, 0, 0])?;
-    show(out, b"F", 1, 1, &[0])?;
+    show(out, b"A", 3, 3, &models::A)?;
+    show(out, b"B", 2, 3, &models::B)?;
+    show(out, b"C", 3, 3, &models::C)?;
+    show(out, b"F", 1, 1, &models::F)?;
     show(out, b"zeros 3x3", 3, 3, &[0, 0, 0, 0, 0, 0, 0, 0, 0])?;
     show(out, b"more equations 4x2", 4, 2, &[1, 0, 1, 1, 0, 0, 0, 4])?;
     show(out, b"more unknowns 2x4", 2, 4, &[1, 1, 0, 0, 0, 1, 0, 4])?;

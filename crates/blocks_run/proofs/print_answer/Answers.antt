@@ -5,16 +5,16 @@ use Rattle.blocks_run.proofs.print_answer.Goals as goal
 
 pub leading_rows-leading-requires : goal.leading_rows-leading-requires
 leading_rows-leading-requires g c =
-    let choice = c.least-choice in
+    let choice = c.least in
     let r = choice.result in
-    chosen_small c.args.n c.args.table.now c.requires r.counts r.tops r.holders choice.ensures
+    chosen_small c.args.n c.args.rows.now c.requires r.counts r.tops r.holders choice.ensures
 
 pub first-partners-requires : goal.first-partners-requires
 first-partners-requires g c =
-    let choice = c.least-choice in
+    let choice = c.least in
     let r = choice.result in (
       c.requires.bounded.equations,
-      rw c.leading_rows-leading.ensures (chosen_full c.args.n c.args.table.now c.requires r.counts r.tops r.holders choice.ensures),
+      rw c.leading_rows-leading.ensures (chosen_full c.args.n c.args.rows.now c.requires r.counts r.tops r.holders choice.ensures),
     )
 
 pub solve_order-placing-requires : goal.solve_order-placing-requires
