@@ -7,6 +7,7 @@ ghost use Rattle.table.specs.Model.{limit};
 
 use analysis::mudorder_analyse;
 use analysis::strip::ANSWER;
+use shown::models;
 use shown::printing::{print, print_figure, print_line};
 use shown::sample::band;
 use std::io;
@@ -18,39 +19,23 @@ const ROOM: usize = ANSWER + 8;
 
 // The six numbers, and what stands above them.
 fn print_reply<W: Write>(out: &mut W, number: u64) -> io::Result<()> {
-    print_figure(out, b" code=", number % 256)?;
-    print_figure(out, b" place=", number / 256 % 65536)?;
-    print_figure(out, b" rank=", number / 16777216 % 256)?;
-    print_figure(out, b" index=", number / 4294967296 % 256)?;
-    print_figure(out, b" freedom=", number / 1099511627776 % 256)?;
-    print_figure(out, b" blocks=", number / 281474976710656 % 256)?;
-    print_figure(out, b" rest=", number / 72057594037927936)?;
+    let [code, low, high, rank, index, freedom, blocks, rest] = number.to_le_bytes();
+    print_figure(out, b" code=", u64::from(code))?;
+    print_figure(out, b" place=", u64::from(u16::from_le_bytes([low, high])))?;
+    print_figure(out, b" rank=", u64::from(rank))?;
+    print_figure(out, b" index=", u64::from(index))?;
+    print_figure(out, b" freedom=", u64::from(freedom))?;
+    print_figure(out, b" blocks=", u64::from(blocks))?;
+    print_figure(out, b" rest=", u64::from(rest))?;
     print(out, b"\n")
 }
 
 // The five strips, and what stands behind them.
-fn print_answer<W: Write>(out: &mut W, answer: [u8; ROOM]) -> io::Result<()> {
-    print_line(out, b"", b" ", &answer[0..LIMIT])?;
-    print_line(out, b"", b" ", &answer[LIMIT..2 * LIMIT])?;
-    print_line(out, b"", b" ", &answer[2 * LIMIT..3 * LIMIT])?;
-    print_line(out, b"", b" ", &answer[3 * LIMIT..4 * LIMIT])?;
-    print_line(out, b"", b" ", &answer[4 * LIMIT..ANSWER])?;
-    print_line(out, b"", b" ", &answer[ANSWER..ROOM])
-}
-
-// A model, with a buffer that is longer than the answer.
-fn show<W: Write>(
-    out: &mut W,
-    name: &[u8],
-    equations: usize,
-    unknowns: usize,
-    table: &[u8],
-) -> io::Result<()> {
-    let mut answer = [7u8; ROOM];
-    print(out, name)?;
-    let number = mudorder_analyse(equations, unknowns, table, &mut answer);
-    print_reply(out, number)?;
-    print_answer(out, answer)
+fn print_answer<W: Write>(out: &mut W, answer: &[u8; ROOM]) -> io::Result<()> {
+    for strip in answer.chunks(LIMIT) {
+        print_line(out, b"", b" ", strip)?;
+    }
+    Ok(())
 }
 
 // A model, with a buffer of its own length.
@@ -64,23 +49,34 @@ fn show_room<W: Write>(
 ) -> io::Result<()>
     requires { room ≤ 5 * limit + 8 }
 {
-    let mut answer = [7u8; ROOM];
+    let mut answer = [7; ROOM];
     print(out, name)?;
-    let number = mudorder_analyse(equations, unknowns, table, &mut answer[0..room]);
+    let number = mudorder_analyse(equations, unknowns, table, &mut answer[..room]);
     print_reply(out, number)?;
-    print_answer(out, answer)
+    print_answer(out, &answer)
 }
 
-fn models<W: Write>(out: &mut W) -> io::Result<()> {
-    show(out, b"A", 3, 3, &[2, 0, 1, 0, 1, 1, 1, 0, 0])?;
-    show(out, b"B", 2, 3, &[2, 0, 1, 0, 1, 1])?;
-    show(out, b"C", 3, 3, &[2, 0, 1, 1, 0, 0, 1, 0, 0])?;
-    show(out, b"D", 1, 1, &[4])?;
-    show(out, b"F", 1, 1, &[0])?;
-    show(out, b"G", 2, 2, &[1, 1, 1, 1])?;
-    show(out, b"H", 2, 2, &[1, 1, 1, 0])?;
-    show(out, b"J", 2, 2, &[1, 0, 4, 1])?;
-    show(out, b"K", 3, 3, &[3, 0, 1, 0, 3, 1, 1, 1, 0])
+// A model, with a buffer that is longer than the answer.
+fn show<W: Write>(
+    out: &mut W,
+    name: &[u8],
+    equations: usize,
+    unknowns: usize,
+    table: &[u8],
+) -> io::Result<()> {
+    show_room(out, name, equations, unknowns, table, ROOM)
+}
+
+fn lettered<W: Write>(out: &mut W) -> io::Result<()> {
+    show(out, b"A", 3, 3, &models::A)?;
+    show(out, b"B", 2, 3, &models::B)?;
+    show(out, b"C", 3, 3, &models::C)?;
+    show(out, b"D", 1, 1, &models::D)?;
+    show(out, b"F", 1, 1, &models::F)?;
+    show(out, b"G", 2, 2, &models::G)?;
+    show(out, b"H", 2, 2, &models::H)?;
+    show(out, b"J", 2, 2, &models::J)?;
+    show(out, b"K", 3, 3, &models::K)
 }
 
 fn limits<W: Write>(out: &mut W) -> io::Result<()> {
@@ -125,7 +121,7 @@ fn refusals<W: Write>(out: &mut W) -> io::Result<()> {
 
 fn main(rt: HostRuntime) -> io::Result<()> {
     let out = &mut rt.stdout();
-    models(out)?;
+    lettered(out)?;
     limits(out)?;
     refusals(out)
 }

@@ -11,10 +11,10 @@ use blocks::place::{Placing, solve_order};
 use counts::lead::leading;
 use counts::raise::{Choice, least};
 use pairing::first::first;
+use shown::judged::paired;
 use shown::models;
 use shown::printing::{print, print_number, print_numbers};
 use shown::sample::band;
-use shown::square::{Square, judged};
 use std::io;
 use std::io::Write;
 use table::LIMIT;
@@ -66,7 +66,7 @@ fn print_answer<W: Write>(out: &mut W, table: &Table) -> io::Result<()>
 // A model of n equations and n unknowns, from its lent table.
 fn show<W: Write>(out: &mut W, name: &[u8], n: usize, bytes: &[u8]) -> io::Result<()> {
     print(out, name)?;
-    if let Square::Solvable(table) = judged(n, bytes) {
+    if let Ok(table) = paired(n, bytes) {
         print_answer(out, &table)?;
     }
     print(out, b"\n")

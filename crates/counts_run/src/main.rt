@@ -9,10 +9,10 @@ ghost use Rattle.counts.specs.Work.{Pairable};
 use counts::figures::{freedom, index};
 use counts::lead::leading;
 use counts::raise::{Choice, least};
+use shown::judged::{Unpaired, paired};
 use shown::models;
 use shown::printing::{print, print_figure, print_line};
 use shown::sample::band;
-use shown::square::{Square, judged};
 use std::io;
 use std::io::Write;
 use table::LIMIT;
@@ -45,13 +45,13 @@ fn print_answer<W: Write>(out: &mut W, table: &Table) -> io::Result<()>
 fn show<W: Write>(out: &mut W, name: &[u8], n: usize, bytes: &[u8]) -> io::Result<()> {
     print(out, name)?;
     print(out, b"\n")?;
-    match judged(n, bytes) {
-        Square::Solvable(table) => print_answer(out, &table),
-        Square::Singular(rank) => {
+    match paired(n, bytes) {
+        Ok(table) => print_answer(out, &table),
+        Err(Unpaired::Singular(rank)) => {
             print_figure(out, b"singular rank=", u64::from(rank))?;
             print(out, b"\n")
         }
-        Square::Refused => Ok(()),
+        Err(Unpaired::Misshapen) => Ok(()),
     }
 }
 

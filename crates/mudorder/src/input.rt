@@ -17,6 +17,7 @@ pub enum Input {
 // Reads until the buffer is full, the input ends or a read fails: what came before a read that failed is not the input. On an input that does not wait, a
 // read that has nothing to give yet has failed. One that a signal interrupts would have failed too, but the program handles no signal, so the system takes
 // such a read up again by itself.
+// Kept (point 3): `read_exact` says nothing of an input that ends before the buffer is full, and `read_to_end` needs a `Vec`.
 pub fn fill<R: Read>(reader: &mut R, buffer: &mut [u8]) -> io::Result<Input>
     ensures possible { Possible (length buffer.old) result }
     ensures given { Given (R.remaining reader.old) buffer.new result }

@@ -20,15 +20,11 @@ fn print_marked<W: Write>(out: &mut W, label: &[u8], marks: &[bool]) -> io::Resu
     requires { length marks.now ≤ limit }
 {
     print(out, label)?;
-    let mut first = true;
-    for (i, &marked) in marks.iter().enumerate() {
-        if marked {
-            print_next(out, b",", first, (i + 1) as u8)?;
-            first = false;
-        }
+    if !marks.contains(&true) {
+        return print(out, b"none");
     }
-    if first {
-        print(out, b"none")?;
+    for (at, i) in (0..marks.len()).filter(|&i| marks[i]).enumerate() {
+        print_next(out, b",", at == 0, (i + 1) as u8)?;
     }
     Ok(())
 }

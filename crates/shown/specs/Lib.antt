@@ -1,4 +1,4 @@
 -- What the contracts of this crate cite.
 pub mod Sample
 pub mod Printing
-pub mod Square
+pub mod Judged

@@ -1,7 +1,7 @@
-// What the programs of the gate share: how they print, document 01's models and tables of full size, and how a square model is judged.
+// What the programs of the gate share: how they print, what they run on, and the judging of it.
 #![tactic(auto)]
 
+pub mod judged;
 pub mod models;
 pub mod printing;
 pub mod sample;
-pub mod square;

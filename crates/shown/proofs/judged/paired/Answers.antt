@@ -1,9 +1,9 @@
--- `square::judged`: what was judged and has full rank is pairable.
+-- `judged::paired`: what was judged and has full rank is pairable.
 use mathlib.Core.Path.{sym, ◌∙◌}
 use borrow.Author.Tests.{eq-eqb}
 use Rattle.laws.proofs.Tests.{and_both}
 use Rattle.counts.proofs.Pairable.{pairable}
-use Rattle.shown.proofs.square.judged.Goals as goal
+use Rattle.shown.proofs.judged.paired.Goals as goal
 
 pub returns-then-from-n : goal.returns-then-from-n
 returns-then-from-n c =
