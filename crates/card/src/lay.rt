@@ -66,6 +66,7 @@ fn put_head(sheet: &mut Sheet, name: &[u8], equations: usize, unknowns: usize)
 }
 
 // The whole card, from the first byte on.
+// Kept (point 5): no `Limits` in place of `equations` and `unknowns`, since this function asks nothing of the equations and may not ask more.
 #[tactic(auto, using(crate::proofs::WriteLaws::head_short, crate::proofs::WriteLaws::lines_short))]
 pub fn put_card(
     card: &mut [u8],
