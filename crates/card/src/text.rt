@@ -41,7 +41,9 @@ pub fn front_number(text: &[u8]) -> Option<Number>
 }
 
 // The end of the line that starts at a place.
-fn line_at(card: &[u8], at: usize) -> Option<usize>
+// Kept (point 5): here and in judge.rt and list.rt a card and a place go side by side. A cursor of both is no plainer: `count_of`, `turn_of` and
+// `end_said` speak of the place alone, so each contract would have to say besides that the cursor is still of this card.
+pub fn line_at(card: &[u8], at: usize) -> Option<usize>
     ensures { result ≡ end_of at (lines_of (drop at card.now)) }
 {
     for end in at..card.len() {
