@@ -1,22 +1,16 @@
 -- Laws of what one line says, step by step as a line is read.
-use mathlib.Core.Path.{◌≡◌, ◌∙◌}
-use mathlib.Core.Bool.{Bool, true}
+use mathlib.Core.Path.{◌≡◌}
+use mathlib.Core.Bool.{true}
 use mathlib.Core.List.{List, [], ◌∷◌}
 use Prim.Native.Nat.{ℕ, zero, suc, ◌+◌, ◌-◌, ◌*◌, ◌≤◌}
 use native.Mathlib.Omega.{arith}
 use lib.Dec.{ltb}
 use lib.ListN.{length}
-use borrow.Author.Tests.{le-leb, ltb-true, ltb-false}
+use borrow.Author.Tests.{ltb-true, ltb-false}
 use Rattle.laws.proofs.Tests.{test, clash}
 use Rattle.card.specs.Text.{end_key, begins, is_digit, digits_of}
-use Rattle.std.specs.List.{list_all}
-use Rattle.card.specs.Entry.{name_byte, good_name, value_of, ended, entry_of}
+use Rattle.card.specs.Entry.{value_of, ended, entry_of}
 use Rattle.card.proofs.TextLaws.{begins_short}
-
--- ---- the name
-
-pub spelt : (s : List ℕ) {b : Bool} → 1 ≤ length s → length s ≤ 24 → b ≡ list_all name_byte s → b ≡ good_name s
-spelt s h k e = e ∙ rw (le-leb 1 (length s) h, le-leb (length s) 24 k)
 
 -- ---- a key in front
 

@@ -73,6 +73,10 @@ pub missed : {A : Type 0} (v : Option A) (r : Refused) {q : Result A Refused} {m
 missed None r b c = (refl, cc)
 missed (Some f) r b c = cc
 
+-- a line that was due, and is there
+pub due : (s : List ℕ) (at e : ℕ) {q : Result ℕ Refused} → q ≡ ok_or (end_of at (lines_of (drop at s))) (refused_at Shape at) → q ≡ Ok e → LineFound s at e
+due s at e a b = found s at e (asked (end_of at (lines_of (drop at s))) (refused_at Shape at) a b)
+
 -- ---- a line that is not there, or has no LF
 
 module _ (at : ℕ) where

@@ -12,6 +12,7 @@ use Rattle.laws.proofs.Tests.{test, clash, and_left, and_right, and_both}
 use Rattle.std.specs.Prelude.{Option, None, Some}
 use Rattle.card.specs.Text.{LF, comma, occurs_key, end_key, begins, is_digit, number, number_of, dec, Lines, none, cut, line, grown, lines_of}
 use Rattle.std.specs.List.{list_all}
+use Rattle.std.proofs.lemmas.List.Folds.{list_all-append}
 use Rattle.card.specs.Entry.{occurrence, name_byte, alone, whole_of, value_of, with_comma, comma_of, order_of, unknown_of, equation_of, triple_of, ended, entry_of}
 use Rattle.card.specs.declared.text.Number.{Number}
 use Rattle.card.specs.declared.entry.Entry.TheVariants.{Occurs, End}
@@ -201,8 +202,7 @@ text_lines (b ∷ s) =
     go (line l rest) = refl
 
 pub every_append : (p : ℕ → Bool) (s t : List ℕ) → list_all p s ≡ true → list_all p t ≡ true → list_all p (s ++ t) ≡ true
-every_append p [] t a b = b
-every_append p (x ∷ s) t a b = and_both (and_left (p x) (list_all p s) a) (every_append p s t (and_right (p x) (list_all p s) a) b)
+every_append p s t a b = rw (list_all-append p s t, a, b)
 
 every_imp : (p q : ℕ → Bool) → ((x : ℕ) → p x ≡ true → q x ≡ true) → (s : List ℕ) → list_all p s ≡ true → list_all q s ≡ true
 every_imp p q f [] h = refl

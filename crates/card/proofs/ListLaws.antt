@@ -2,7 +2,7 @@
 use mathlib.Core.Path.{◌≡◌, refl, ap, ◌∙◌}
 use mathlib.Core.Bool.{true, false, ◌&&◌}
 use mathlib.Core.List.{List, [], ◌∷◌}
-use Prim.Native.Nat.{ℕ, zero, suc, ◌+◌, ◌-◌, ◌*◌, ◌≤◌, ◌<◌}
+use Prim.Native.Nat.{ℕ, ◌+◌, ◌-◌, ◌*◌, ◌≤◌, ◌<◌}
 use native.Mathlib.Omega.{arith}
 use native.Mathlib.Nat.{mul-le-mul, lt_of_lt_of_le}
 use lib.Arith.{digits_lt}
@@ -10,6 +10,7 @@ use lib.Dec.{leb, ltb, eqb}
 use lib.ListN.{length, take, drop, set, replicate, length-drop, length-set, length-replicate, drop_of_length-le}
 use lib.Seq.{take-set-lt}
 use borrow.Author.Tests.{leb-true, ltb-true, ltb-false}
+use Rattle.std.proofs.lemmas.List.{take-replicate}
 use Rattle.laws.specs.Tab.{pick}
 use Rattle.laws.proofs.Tests.{test, and_left, and_right}
 use Rattle.table.specs.Model.{limit, in_limits}
@@ -159,11 +160,6 @@ pub record Collecting (s : List ℕ) (E U from : ℕ) (t : List ℕ) (e u n at :
   pub fewer : n ≤ at
   pub same : (name : List ℕ) → list_of name E U from (lines_of (drop from s)) ≡ collected name E U n e u (take (E * U) t) at (lines_of (drop at s))
 
-take_replicate : (m n : ℕ) → m ≤ n → take m (replicate {A = ℕ} n 0) ≡ replicate m 0
-take_replicate zero n h = refl
-take_replicate (suc m) zero h = absurd (omega arith)
-take_replicate (suc m) (suc n) h = ap (λ l. 0 ∷ l) (take_replicate m n (omega arith))
-
 pub collecting_start : (s : List ℕ) (E U from : ℕ) → in_limits E U ≡ true → from ≤ length s → Collecting s E U from (replicate (limit * limit) 0) 0 0 0 from
 collecting_start s E U from h r =
     record {
@@ -171,7 +167,7 @@ collecting_start s E U from h r =
       room = r;
       fewer = omega arith;
       same = λ name. rw
-          (take_replicate (E * U) (limit * limit) (cells_within E U h));
+          (take-replicate {X = ℕ} (E * U) (limit * limit) 0 (cells_within E U h));
     }
 
 module _ {s : List ℕ} {E U from : ℕ} {t : List ℕ} {e' u' n at : ℕ} (k : Collecting s E U from t e' u' n at) where

@@ -1,12 +1,12 @@
 -- Laws of the reader's and the name question's last steps: what the lines come to, and what is handed back of it.
-use mathlib.Core.Path.{◌≡◌, refl, ap, ◌∙◌}
+use mathlib.Core.Path.{sym, ◌≡◌, refl, ap, ◌∙◌}
 use mathlib.Core.Bool.{false}
-use mathlib.Core.List.{List, [], ◌∷◌}
-use Prim.Native.Nat.{ℕ, zero, suc, ◌+◌, ◌-◌}
+use mathlib.Core.List.{List}
+use Prim.Native.Nat.{ℕ, ◌+◌, ◌-◌, ◌≤◌}
 use native.Mathlib.Omega.{arith}
 use denote.Ref.{Bor}
 use lib.ListN.{length, take, drop}
-use lib.Seq.{take-nil}
+use Rattle.std.proofs.lemmas.List.{drop-take}
 use Rattle.card.specs.Text.{rig_key}
 use Rattle.std.specs.Prelude.{Result, Ok, Err, is_err}
 use Rattle.card.specs.declared.refusal.Refused.{Refused}
@@ -16,14 +16,10 @@ use Rattle.card.specs.Steps.{from_head, HeadRead, ListRead}
 
 -- ---- where the name lies
 
-part_name : (s : List ℕ) (end : ℕ) → take (end - 4) (drop 4 s) ≡ drop 4 (take end s)
-part_name s end = go 4 end s
-  where
-    go : (n m : ℕ) (l : List ℕ) → take (m - n) (drop n l) ≡ drop n (take m l)
-    go zero m l = let z : m - 0 ≡ m = omega arith in rw z
-    go (suc n) zero l = let z : 0 - suc n ≡ 0 = omega arith in rw z
-    go (suc n) (suc m) [] = take-nil (suc m - suc n)
-    go (suc n) (suc m) (x ∷ l) = let z : suc m - suc n ≡ m - n = omega arith in rw z (go n m l)
+part_name : (s : List ℕ) (end : ℕ) → 4 ≤ end → take (end - 4) (drop 4 s) ≡ drop 4 (take end s)
+part_name s end h =
+    let z : 4 + (end - 4) ≡ end = omega arith in
+    sym (ap (λ n. drop 4 (take n s)) (sym z) ∙ drop-take {X = ℕ} 4 (end - 4) s)
 
 -- the name of a good card
 pub name_good : {card : Bor (List ℕ)} {q : Result Head Refused} {h : Head} {p : ℕ} (r : Result (List ℕ) Refused) → HeadRead card.now q → q ≡ Ok h
@@ -32,4 +28,4 @@ pub name_good : {card : Bor (List ℕ)} {q : Result Head Refused} {h : Head} {p 
 name_good (Err m) k e l f z = cc
 name_good {card} {q} {h} (Ok t) k e l f z =
     let w = k.same ∙ ap (from_head card.now) e ∙ l.same (drop (length rig_key) (take h.name_end card.now)) in
-    record { bytes = rw w (part_name card.now h.name_end); block = refl; place = rw w z }
+    record { bytes = rw w (part_name card.now h.name_end (rw e at k.fits).0); block = refl; place = rw w z }

@@ -6,9 +6,9 @@ use Prim.Native.Nat.{ℕ, zero, suc, ◌+◌, ◌-◌, ◌*◌, ◌^◌, ◌≤�
 use native.Mathlib.Omega.{arith}
 use native.Mathlib.Numerals.{add-one}
 use lib.Dec.{leb, eqb}
-use lib.ListN.{length, get_or, take, drop, length-take, drop_of_length-le}
+use lib.ListN.{length, get_or, take, drop, length-take}
 use lib.Seq.{drop-cons}
-use borrow.Author.Tests.{leb-true, leb-false}
+use borrow.Author.Tests.{leb-true}
 use Rattle.std.specs.Prelude.{Some}
 use Rattle.std.proofs.lemmas.List.{get_or-take}
 use Rattle.laws.specs.Tab.{pick}
@@ -52,24 +52,10 @@ digits_at s value took i h k =
     let d : drop i s ≡ get_or s i 0 ∷ drop (i + 1) s = rw add-one (drop-cons s i 0 k) in
     rw (e, d)
 
-pow_small : (i : ℕ) → i < 3 → 10 ^ (i + 1) ≤ 1000
-pow_small zero h = omega arith
-pow_small (suc zero) h = omega arith
-pow_small (suc (suc zero)) h = omega arith
-pow_small (suc (suc (suc n))) h = absurd (omega arith)
-
 -- over the bytes behind the first, of which the loop sees at most three
 module _ {text rest : List ℕ} {first m : ℕ} {d : Number} {i : ℕ} (e : text ≡ first ∷ rest) (s : m ≡ min (length rest) 3) (k : Taken text d i) where
   behind : drop (i + 1) text ≡ drop i rest
   behind = rw (e, add-one)
-
-  -- the digits end, or three were taken
-  pub taken_end : length (take m rest) ≤ i → Some d ≡ number_of text
-  taken_end h =
-      let a = length-take m rest in
-      sym (k.same ∙ ap (λ l. Some (digits_of (3 - i) d.value d.took l)) behind ∙ ap Some (test (leb (length rest) i)
-      (λ l. rw (drop_of_length-le rest (leb-true (length rest) i l)) (digits_end (3 - i) d.value d.took))
-      (λ l. let x : 3 - i ≡ 0 = omega (arith, leb-false (length rest) i l) in rw x)))
 
   module _ (l : i < length (take m rest)) where
     room : (i < m) × (i < length rest)
@@ -80,22 +66,6 @@ module _ {text rest : List ℕ} {first m : ℕ} {d : Number} {i : ℕ} (e : text
         let (a, b) = room in
         sym (k.same ∙ ap (λ l. Some (digits_of (3 - i) d.value d.took l)) behind
         ∙ ap Some (digits_at rest d.value d.took i (omega arith) b ∙ rw (← get_or-take m rest i 0 a, f)))
-
-    pub taken_step : is_digit (get_or (take m rest) i 0) ≡ true
-        → Taken text (number (d.value * 10 + (get_or (take m rest) i 0 - 48)) (d.took + 1)) (i + 1)
-    taken_step f =
-        let (a, b) = room in
-        let g = get_or-take m rest i 0 a in
-        let z : is_digit (get_or rest i 0) ≡ true = rw g at f in
-        let n : length text ≡ suc (length rest) = ap length e in
-        let t : drop (i + 1 + 1) text ≡ drop (i + 1) rest = rw (e, add-one) in
-        rw g (record {
-          three = omega arith;
-          within = omega arith;
-          small = let p : 10 ^ (i + 1 + 1) ≡ 10 * 10 ^ (i + 1) = rw (add-one (i + 1)) (omega arith) in omega (arith, k.small, digit_high (get_or rest i 0) z);
-          took = let t = k.took in omega arith;
-          same = rw t (k.same ∙ ap (λ l. Some (digits_of (3 - i) d.value d.took l)) behind ∙ rw (digits_at rest d.value d.took i (omega arith) b, z));
-        })
 
 -- a line's end, one byte after another
 pub end_grown : (b at : ℕ) (x : Lines) → end_of at (grown b x) ≡ end_of (at + 1) x

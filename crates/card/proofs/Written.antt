@@ -19,6 +19,8 @@ use Rattle.card.specs.Card.{occurrences, card_of}
 use Rattle.std.specs.Prelude.{Some, Ok}
 use Rattle.card.specs.Promise.{WriteGood}
 use Rattle.card.specs.declared.entry.Entry.TheVariants.{Occurs, End}
+use Rattle.std.proofs.lemmas.List.Sums.{count_by-le-length}
+use Rattle.card.proofs.WriteLaws.{occurrences_count}
 use Rattle.card.proofs.Lines.{value_dec, entry_occurs, entry_ended, lines_of_lem, rig_clear, value_clear, occurs_clear}
 use Rattle.card.proofs.Order.{cell_of, pair_at, Behind, behind_none, behind_some, behind_more, behind_after}
 use Rattle.card.proofs.ListLaws.{cells_within}
@@ -44,8 +46,7 @@ small_codes (x ∷ t) h =
     rw (and_left (small x) (list_all small t) h) (eq-eqb (suc (first_above t)) (suc (length t)) (omega arith))
 
 pub few : (t : List ℕ) → occurrences t ≤ length t
-few [] = omega arith
-few (x ∷ t) = let l = few t in test (eqb x 0) (λ z. rw z (omega arith)) (λ z. rw z (omega arith))
+few t = rw (occurrences_count t) (count_by-le-length _ t)
 
 -- ---- the occurs lines and the end line
 

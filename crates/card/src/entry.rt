@@ -1,5 +1,6 @@
 // What one line says. A line comes without its LF.
 ghost use Rattle.std.specs.Prelude.{◌≡◌};
+ghost use Rattle.std.specs.List.{list_all};
 ghost use Rattle.card.specs.Entry.{name_byte, good_name, whole_of, value_of, comma_of, triple_of, entry_of};
 
 use crate::text::{Number, front_number};
@@ -25,11 +26,17 @@ fn name_byte(byte: u8) -> bool
     byte.is_ascii_lowercase() || byte.is_ascii_digit() || byte == b'-'
 }
 
+fn name_bytes(name: &[u8]) -> bool
+    ensures { result ≡ list_all name_byte name.now }
+{
+    name.iter().all(|&byte| name_byte(byte))
+}
+
 // 1 to 24 bytes of a-z, 0-9 and hyphen.
 pub fn good_name(name: &[u8]) -> bool
     ensures { result ≡ good_name name.now }
 {
-    1 <= name.len() && name.len() <= 24 && name.iter().all(|&byte| name_byte(byte))
+    (1..=24).contains(&name.len()) && name_bytes(name)
 }
 
 // The whole text is one number.
@@ -62,8 +69,8 @@ fn with_comma(text: &[u8]) -> Option<Number>
     let number = front_number(text)?;
     if text[number.took..].starts_with(b",") {
         Some(Number {
-            value: number.value,
             took: number.took + 1,
+            ..number
         })
     } else {
         None
@@ -90,8 +97,7 @@ pub fn line_entry(line: &[u8]) -> Option<Entry>
     ensures { result ≡ entry_of line.now }
 {
     if line.starts_with(b"end=") {
-        let count = line_value(line, b"end=")?;
-        return Some(Entry::End(count));
+        return line_value(line, b"end=").map(Entry::End);
     }
     if line.starts_with(b"occurs=") {
         triple(&line[7..])

@@ -7,14 +7,14 @@ ghost use Rattle.card.specs.Steps.{HeadRead, CountsRead};
 use crate::entry::{good_name, line_value};
 use crate::head::{Head, Limits};
 use crate::refusal::{Refusal, Refused};
-use crate::text::line_at;
+use crate::text::line_end;
 use table::judge::counted;
 
 // Where the rig line's LF stands.
 fn read_rig(card: &[u8]) -> Result<usize, Refused>
     ensures { result ≡ rig_of (lines_of card.now) }
 {
-    let end = line_at(card, 0).ok_or(Refusal::Shape.at(0))?;
+    let end = line_end(card, 0)?;
     let line = &card[..end];
     if !line.starts_with(b"rig=") {
         return Err(Refusal::Shape.at(0));
@@ -30,7 +30,7 @@ fn read_rig(card: &[u8]) -> Result<usize, Refused>
 fn read_count(card: &[u8], at: usize, key: &[u8]) -> Result<(usize, usize), Refused>
     ensures { result ≡ count_of key.now at (lines_of (drop at card.now)) }
 {
-    let end = line_at(card, at).ok_or(Refusal::Shape.at(at))?;
+    let end = line_end(card, at)?;
     let number = line_value(&card[at..end], key).ok_or(Refusal::Shape.at(at))?;
     if counted(number) {
         Ok((number, end + 1))

@@ -6,6 +6,7 @@ ghost use Rattle.card.specs.Text.{occurs_key, comma, dec};
 ghost use Rattle.card.specs.Card.{line_of, occurs_line, occurs_lines, occurrences, head_lines, card_of};
 ghost use Rattle.card.specs.Laid.{Laid, LaidOn};
 
+use crate::head::Limits;
 use crate::put::Sheet;
 use table::number::{Counted, Equation, Unknown};
 
@@ -23,25 +24,26 @@ fn put_occurs(sheet: &mut Sheet, equation: Equation, unknown: Unknown, order: us
 }
 
 // The line of one byte of the table: its equation and unknown are its row and column.
-fn put_cell(sheet: &mut Sheet, unknowns: usize, cell: usize, code: u8)
-    requires { (sheet.old.at + 22 < 2 ^ 64) × (1 ≤ unknowns) × (unknowns ≤ limit) × (cell < limit * unknowns) }
-    ensures { LaidOn sheet.old (occurs_line unknowns cell code) sheet.new }
+#[tactic(auto, using(table::proofs::Model::limits))]
+fn put_cell(sheet: &mut Sheet, limits: Limits, cell: usize, code: u8)
+    requires { (sheet.old.at + 22 < 2 ^ 64) × (cell < limit * limits.unknowns) }
+    ensures { LaidOn sheet.old (occurs_line limits.unknowns cell code) sheet.new }
 {
     if code != 0 {
-        let equation = Equation::at(cell / unknowns);
-        let unknown = Unknown::at(cell % unknowns);
+        let equation = Equation::at(cell / limits.unknowns);
+        let unknown = Unknown::at(cell % limits.unknowns);
         put_occurs(sheet, equation, unknown, usize::from(code - 1));
     }
 }
 
 // The occurs lines, row by row.
-#[tactic(auto, using(crate::proofs::WriteLaws::lines_near))]
-fn put_cells(sheet: &mut Sheet, unknowns: usize, table: &[u8])
-    requires { (sheet.old.at ≤ 2 ^ 32) × (1 ≤ unknowns) × (unknowns ≤ limit) × (length table.now ≤ limit * unknowns) }
-    ensures { LaidOn sheet.old (occurs_lines unknowns 0 table.now) sheet.new }
+#[tactic(auto, using(crate::proofs::WriteLaws::lines_near, table::proofs::Model::limits))]
+fn put_cells(sheet: &mut Sheet, limits: Limits, table: &[u8])
+    requires { (sheet.old.at ≤ 2 ^ 32) × (length table.now ≤ limit * limits.unknowns) }
+    ensures { LaidOn sheet.old (occurs_lines limits.unknowns 0 table.now) sheet.new }
 {
     for (cell, &code) in table.iter().enumerate() {
-        put_cell(sheet, unknowns, cell, code);
+        put_cell(sheet, limits, cell, code);
     }
 }
 
@@ -54,35 +56,29 @@ fn count_codes(table: &[u8]) -> usize
 }
 
 // The first three lines.
-fn put_head(sheet: &mut Sheet, name: &[u8], equations: usize, unknowns: usize)
+fn put_head(sheet: &mut Sheet, name: &[u8], limits: Limits)
     requires { (sheet.old.at ≤ 2 ^ 32) × (length name.now ≤ 24) }
-    ensures { LaidOn sheet.old (head_lines name.now equations unknowns) sheet.new }
+    ensures { LaidOn sheet.old (head_lines name.now limits.equations limits.unknowns) sheet.new }
 {
     sheet.put_all(b"rig=");
     sheet.put_all(name);
     sheet.put(b'\n');
-    sheet.put_line(b"equations=", equations);
-    sheet.put_line(b"unknowns=", unknowns);
+    sheet.put_line(b"equations=", limits.equations);
+    sheet.put_line(b"unknowns=", limits.unknowns);
 }
 
 // The whole card, from the first byte on.
-#[tactic(auto, using(crate::proofs::WriteLaws::head_short, crate::proofs::WriteLaws::lines_short))]
-pub fn put_card(
-    card: &mut [u8],
-    name: &[u8],
-    equations: usize,
-    unknowns: usize,
-    table: &[u8],
-) -> usize
-    requires { (length name.now ≤ 24) × (1 ≤ unknowns) × (unknowns ≤ limit) × (length table.now ≤ limit * unknowns) }
-    ensures { Laid card.old 0 (card_of name.now equations unknowns table.now) card.new result }
+#[tactic(auto, using(crate::proofs::WriteLaws::head_short, crate::proofs::WriteLaws::lines_short, table::proofs::Model::limits))]
+pub fn put_card(card: &mut [u8], name: &[u8], limits: Limits, table: &[u8]) -> usize
+    requires { (length name.now ≤ 24) × (length table.now ≤ limit * limits.unknowns) }
+    ensures { Laid card.old 0 (card_of name.now limits.equations limits.unknowns table.now) card.new result }
 {
     let mut sheet = Sheet {
         buffer: card,
         at: 0,
     };
-    put_head(&mut sheet, name, equations, unknowns);
-    put_cells(&mut sheet, unknowns, table);
+    put_head(&mut sheet, name, limits);
+    put_cells(&mut sheet, limits, table);
     sheet.put_line(b"end=", count_codes(table));
     sheet.at
 }

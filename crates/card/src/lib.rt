@@ -83,6 +83,10 @@ pub fn write(
     if !in_limits(equations, unknowns) {
         return Err(Refusal::Limits.at(0));
     }
+    let limits = Limits {
+        equations,
+        unknowns,
+    };
     if !well_sized(equations, unknowns, table) {
         return Err(Refusal::TableLength.at(0));
     }
@@ -90,24 +94,18 @@ pub fn write(
     if above != table.len() {
         return Err(Refusal::Code.at(above));
     }
-    write_good(name, equations, unknowns, table, card)
+    write_good(name, limits, table, card)
 }
 
 // The same where only the room is left to judge: the card is measured first, by laying it into a part of length 0.
-fn write_good(
-    name: &[u8],
-    equations: usize,
-    unknowns: usize,
-    table: &[u8],
-    card: &mut [u8],
-) -> Result<usize, Refused>
-    requires { WriteGood name.now equations unknowns table.now }
-    ensures { WriteDone name.now equations unknowns table.now card.old result card.new }
+fn write_good(name: &[u8], limits: Limits, table: &[u8], card: &mut [u8]) -> Result<usize, Refused>
+    requires { WriteGood name.now limits.equations limits.unknowns table.now }
+    ensures { WriteDone name.now limits.equations limits.unknowns table.now card.old result card.new }
 {
-    let length = put_card(&mut card[..0], name, equations, unknowns, table);
+    let length = put_card(&mut card[..0], name, limits, table);
     if card.len() < length {
         return Err(Refusal::CardRoom.at(0));
     }
-    put_card(card, name, equations, unknowns, table);
+    put_card(card, name, limits, table);
     Ok(length)
 }

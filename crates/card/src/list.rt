@@ -9,7 +9,7 @@ ghost use Rattle.card.specs.Steps.{last_equation, last_unknown, said_in, end_sai
 use crate::entry::{Entry, Occurrence, line_entry};
 use crate::head::Limits;
 use crate::refusal::{Refusal, Refused};
-use crate::text::line_at;
+use crate::text::line_end;
 use table::CELLS;
 use table::number::{Counted, Equation, Unknown};
 
@@ -30,10 +30,8 @@ pub enum Turn {
 fn in_range(limits: Limits, it: Occurrence) -> bool
     ensures { result ≡ in_range limits.equations limits.unknowns it.equation it.unknown it.order }
 {
-    1 <= it.equation
-        && it.equation <= limits.equations
-        && 1 <= it.unknown
-        && it.unknown <= limits.unknowns
+    (1..=limits.equations).contains(&it.equation)
+        && (1..=limits.unknowns).contains(&it.unknown)
         && it.order <= 3
 }
 
@@ -66,6 +64,7 @@ fn read_pair(
     }
     Ok(Turn::Next {
         pair,
+        // Kept (point 4): `as` is proved to lose nothing; `u8::try_from` would make a Result that cannot be an error.
         code: (it.order + 1) as u8,
         next,
     })
@@ -75,7 +74,7 @@ fn read_pair(
 fn read_turn(card: &[u8], at: usize, limits: Limits, last: Option<Pair>) -> Result<Turn, Refused>
     ensures { said_in result ≡ turn_of limits.equations limits.unknowns (last_equation last) (last_unknown last) at (lines_of (drop at card.now)) }
 {
-    let end = line_at(card, at).ok_or(Refusal::Shape.at(at))?;
+    let end = line_end(card, at)?;
     let next = end + 1;
     match line_entry(&card[at..end]).ok_or(Refusal::Shape.at(at))? {
         Entry::End(count) => Ok(Turn::Last { count, next }),
@@ -105,6 +104,7 @@ pub fn read_list(card: &[u8], from: usize, limits: Limits) -> Result<[u8; CELLS]
     let mut last = None;
     let mut count = 0;
     let mut at = from;
+    // Kept (point 3): each line tells where the next one starts and the end line ends the loop, so no range and no slice gives the steps.
     loop {
         match read_turn(card, at, limits, last)? {
             Turn::Last { count: said, next } => {

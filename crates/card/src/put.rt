@@ -15,6 +15,7 @@ pub struct Sheet<'a> {
 pub fn digit_of(n: usize) -> u8
     ensures { result ≡ digit_of n }
 {
+    // Kept (point 4): `as` is proved to lose nothing; `u8::try_from` would make a Result that cannot be an error.
     b'0' + (n % 10) as u8
 }
 
@@ -22,16 +23,12 @@ pub fn digit_of(n: usize) -> u8
 fn zeros_of(n: usize) -> usize
     ensures { result ≡ zeros_of n }
 {
-    if n < 10 {
-        return 3;
+    match n {
+        0..=9 => 3,
+        10..=99 => 2,
+        100..=999 => 1,
+        _ => 0,
     }
-    if n < 100 {
-        return 2;
-    }
-    if n < 1000 {
-        return 1;
-    }
-    0
 }
 
 impl<'a> Sheet<'a> {
@@ -60,11 +57,12 @@ impl<'a> Sheet<'a> {
         requires { self.old.at + 4 < 2 ^ 64 }
         ensures { LaidOn self.old (dec n) self.new }
     {
-        let thousands = digit_of(n / 1000);
-        let hundreds = digit_of(n / 100);
-        let tens = digit_of(n / 10);
-        let ones = digit_of(n);
-        let digits = [thousands, hundreds, tens, ones];
+        let digits = [
+            digit_of(n / 1000),
+            digit_of(n / 100),
+            digit_of(n / 10),
+            digit_of(n),
+        ];
         let from = zeros_of(n);
         self.put_all(&digits[from..]);
     }

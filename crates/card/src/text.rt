@@ -1,7 +1,12 @@
 // Numbers and lines.
 ghost use Rattle.std.specs.Prelude.{◌≡◌, drop};
+ghost use Rattle.std.specs.Option.{ok_or};
 ghost use Rattle.card.specs.Text.{number_of, lines_of};
 ghost use Rattle.card.specs.Steps.{end_of};
+ghost use Rattle.card.specs.Refusal.{refused_at};
+ghost use Rattle.card.specs.declared.refusal.Refusal.TheVariants.{Shape};
+
+use crate::refusal::{Refusal, Refused};
 
 // A number at the front of a text, and how many bytes it takes.
 #[derive(Clone, Copy)]
@@ -36,7 +41,7 @@ pub fn front_number(text: &[u8]) -> Option<Number>
 }
 
 // The end of the line that starts at a place.
-pub fn line_at(card: &[u8], at: usize) -> Option<usize>
+fn line_at(card: &[u8], at: usize) -> Option<usize>
     ensures { result ≡ end_of at (lines_of (drop at card.now)) }
 {
     for end in at..card.len() {
@@ -45,4 +50,11 @@ pub fn line_at(card: &[u8], at: usize) -> Option<usize>
         }
     }
     None
+}
+
+// The same where a line is due.
+pub fn line_end(card: &[u8], at: usize) -> Result<usize, Refused>
+    ensures { result ≡ ok_or (end_of at (lines_of (drop at card.now))) (refused_at Shape at) }
+{
+    line_at(card, at).ok_or(Refusal::Shape.at(at))
 }

@@ -10,6 +10,6 @@ pub returns : goal.returns
 returns c =
     let a = c.args in
     let e = laid_nothing c.put_card-length.ensures in
-    let z : c.put_card-length.result ≡ length (card_of a.name.now a.equations a.unknowns a.table.now) = let p = c.put_card-length.ensures.place in omega arith in
+    let z : c.put_card-length.result ≡ length (card_of a.name.now a.limits.equations a.limits.unknowns a.table.now) = let p = c.put_card-length.ensures.place in omega arith in
     let t = rw e at c.if-card-length.false in
     rw z (write_0 c.requires (omega arith) (rw e at c.put_card.ensures))

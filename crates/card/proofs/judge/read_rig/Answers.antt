@@ -6,20 +6,15 @@ use borrow.Author.Rules.{part_to_end}
 use lib.ListN.{take}
 use lib.Seq.{length-take-le}
 use Rattle.card.specs.Entry.{good_name}
-use Rattle.card.proofs.LineLaws.{LineFound, found, asked, rig_shape, rig_bad, rig_good}
+use Rattle.card.proofs.LineLaws.{LineFound, due, rig_bad, rig_good}
 use Rattle.card.proofs.judge.read_rig.Goals as goal
 use Rattle.card.proofs.judge.read_rig.Goals.{In_ok-end}
 
 there : (c : In_ok-end) → LineFound c.args.card.now 0 c.in_ok-end.end
-there c = found c.args.card.now 0 c.in_ok-end.end (sym c.line_at.ensures ∙ asked c.line_at.result c.at.result c.ok_or.ensures.value c.in_ok-end.was)
+there c = due c.args.card.now 0 c.in_ok-end.end c.line_end.ensures c.in_ok-end.was
 
 pub slice_bounds-line-end : goal.slice_bounds-line-end
 slice_bounds-line-end c = sym (length-take-le c.in_ok-end.end c.args.card.now (omega (arith, (there c).room)))
-
-pub returns-then-not-starts_with : goal.returns-then-not-starts_with
-returns-then-not-starts_with c =
-    ap Err c.at-then-not-starts_with.ensures
-    ∙ rig_shape c.args.card.now (there (goal.at.returns-then-not-starts_with c).In_ok-end) (sym c.starts_with.ensures.value ∙ c.if-not-starts_with.true)
 
 pub returns-then-good_name : goal.returns-then-good_name
 returns-then-good_name c =

@@ -5,4 +5,4 @@ use Rattle.card.specs.Laid.{LaidOn}
 use Rattle.card.proofs.lay.put_cells.Given as goal
 
 abbrev pub invariant-loop-cell : goal.invariant-loop-cell
-invariant-loop-cell l = LaidOn l.initial.sheet (occurs_lines l.unknowns 0 (take l.cell l.table)) l.sheet
+invariant-loop-cell l = LaidOn l.initial.sheet (occurs_lines l.limits.unknowns 0 (take l.cell l.table)) l.sheet

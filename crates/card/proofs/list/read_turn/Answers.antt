@@ -9,12 +9,12 @@ use lib.ListN.{drop}
 use Rattle.card.specs.Text.{lines_of}
 use Rattle.card.specs.Card.{turn_said, turn_of}
 use Rattle.card.specs.Steps.{last_equation, last_unknown, said_in}
-use Rattle.card.proofs.LineLaws.{LineFound, found, asked, missed, turn_found}
+use Rattle.card.proofs.LineLaws.{LineFound, due, asked, missed, turn_found}
 use Rattle.card.proofs.list.read_turn.Goals as goal
 use Rattle.card.proofs.list.read_turn.Goals.{In_ok-end, After-line_entry}
 
 there : (c : In_ok-end) → LineFound c.args.card.now c.args.at c.in_ok-end.end
-there c = found c.args.card.now c.args.at c.in_ok-end.end (sym c.line_at.ensures ∙ asked c.line_at.result c.at.result c.ok_or.ensures.value c.in_ok-end.was)
+there c = due c.args.card.now c.args.at c.in_ok-end.end c.line_end.ensures c.in_ok-end.was
 
 -- the line comes to what it says
 turned : (c : After-line_entry) {v : Option Entry} → c.line_entry.result ≡ v
@@ -33,17 +33,17 @@ slice_bounds-line_entry-end c = omega (arith, (there (goal.at.slice_bounds-line_
 
 pub returns-in_err-count : goal.returns-in_err-count
 returns-in_err-count c =
-    let (n, r) = missed c.line_entry.result c.at-2.result c.ok_or-2.ensures.value c.in_err-count.was in
+    let (n, r) = missed c.line_entry.result c.at.result c.ok_or.ensures.value c.in_err-count.was in
     let p = err_from_is_err_and c.from_residual-in_err-count.result c.from_residual-in_err-count.ensures.1 in
-    ap said_in (p.1 ∙ ap Err (p.2 ∙ sym r ∙ c.at-2.ensures)) ∙ turned (goal.at.returns-in_err-count c).After-line_entry n
+    ap said_in (p.1 ∙ ap Err (p.2 ∙ sym r ∙ c.at.ensures)) ∙ turned (goal.at.returns-in_err-count c).After-line_entry n
 
 pub returns-in-End : goal.returns-in-End
 returns-in-End c =
     turned (goal.at.returns-in-End c).After-line_entry
-    (asked c.line_entry.result c.at-2.result c.ok_or-2.ensures.value c.in_ok-count.was ∙ ap Some c.in-End.is)
+    (asked c.line_entry.result c.at.result c.ok_or.ensures.value c.in_ok-count.was ∙ ap Some c.in-End.is)
 
 pub returns-in-Occurs : goal.returns-in-Occurs
 returns-in-Occurs c =
     c.read_pair.ensures
     ∙ turned (goal.at.returns-in-Occurs c).After-line_entry
-    (asked c.line_entry.result c.at-2.result c.ok_or-2.ensures.value c.in_ok-count.was ∙ ap Some c.in-Occurs.is)
+    (asked c.line_entry.result c.at.result c.ok_or.ensures.value c.in_ok-count.was ∙ ap Some c.in-Occurs.is)
