@@ -3,7 +3,7 @@
 
 ghost use Rattle.std.specs.Prelude.{◌≤◌, length, IfOk};
 
-use card::{Reading, Writing};
+use card::{Refused, Size};
 use shown::printing::{print, print_number, print_numbers};
 use std::io;
 use std::io::{Read, Write};
@@ -37,17 +37,24 @@ fn digits<W: Write>(out: &mut W, table: &[u8]) -> io::Result<()> {
     print(out, b" ")
 }
 
-fn read_says<W: Write>(out: &mut W, r: Reading) -> io::Result<()> {
-    number(out, r.number as usize)?;
-    number(out, r.place)?;
-    number(out, r.equations)?;
-    number(out, r.unknowns)
+// The number and the place of a refusal, and 0 and 0 where nothing is refused.
+fn refusal<W: Write>(out: &mut W, refused: Option<Refused>) -> io::Result<()> {
+    number(
+        out,
+        refused.map_or(0, |it| usize::from(it.refusal.number())),
+    )?;
+    number(out, refused.map_or(0, |it| it.place))
 }
 
-fn write_says<W: Write>(out: &mut W, w: Writing) -> io::Result<()> {
-    number(out, w.number as usize)?;
-    number(out, w.place)?;
-    number(out, w.length)
+fn read_says<W: Write>(out: &mut W, read: Result<Size, Refused>) -> io::Result<()> {
+    refusal(out, read.err())?;
+    number(out, read.map_or(0, |size| size.equations))?;
+    number(out, read.map_or(0, |size| size.unknowns))
+}
+
+fn write_says<W: Write>(out: &mut W, written: Result<usize, Refused>) -> io::Result<()> {
+    refusal(out, written.err())?;
+    number(out, written.unwrap_or(0))
 }
 
 // What the writer says with so much room.
@@ -61,8 +68,8 @@ fn wrote<W: Write>(
 ) -> io::Result<()> {
     let mut card = [0u8; CARD_ROOM];
     if room <= CARD_ROOM {
-        let w = card::write(name, equations, unknowns, table, &mut card[..room]);
-        write_says(out, w)?;
+        let written = card::write(name, equations, unknowns, table, &mut card[..room]);
+        write_says(out, written)?;
     }
     Ok(())
 }
@@ -77,9 +84,9 @@ fn again<W: Write>(
 ) -> io::Result<()> {
     let mut card = [0u8; CARD_ROOM];
     let name = card::name_of(case);
-    let w = card::write(name, equations, unknowns, table, &mut card);
-    write_says(out, w)?;
-    let length = w.length;
+    let written = card::write(name, equations, unknowns, table, &mut card);
+    write_says(out, written)?;
+    let length = written.unwrap_or(0);
     verdict(out, &card[..length] == case)?;
     if 0 < length {
         wrote(out, name, equations, unknowns, table, length - 1)?;
@@ -90,53 +97,44 @@ fn again<W: Write>(
 // The answer with a table buffer of 16 bytes, 9 in each, and those bytes.
 fn run_small<W: Write>(out: &mut W, case: &[u8]) -> io::Result<()> {
     let mut small = [9u8; 16];
-    let r = card::read(case, &mut small);
-    number(out, r.number as usize)?;
+    let read = card::read(case, &mut small);
+    number(
+        out,
+        read.err().map_or(0, |it| usize::from(it.refusal.number())),
+    )?;
     digits(out, &small)
 }
 
 // A case: the answer with a table buffer of 4,096 bytes and the name; the answer with a small one; the way back.
 fn run<W: Write>(out: &mut W, case: &[u8]) -> io::Result<()> {
     let mut large = [0u8; TABLE_ROOM];
-    let r = card::read(case, &mut large);
-    read_says(out, r)?;
+    let read = card::read(case, &mut large);
+    read_says(out, read)?;
     print(out, card::name_of(case))?;
     print(out, b" ")?;
     run_small(out, case)?;
-    if r.number == 0 {
-        let e = r.equations;
-        let u = r.unknowns;
-        let size = e * u;
-        again(out, case, e, u, &large[..size])?;
+    if let Ok(
+        Size {
+            equations,
+            unknowns,
+        },
+    ) = read
+    {
+        again(
+            out,
+            case,
+            equations,
+            unknowns,
+            &large[..equations * unknowns],
+        )?;
     }
     print(out, b"\n")
 }
 
-// The next '~', or the end.
-fn mark(input: &[u8], at: usize) -> usize
-    requires { at ≤ length input.now }
-    ensures { (at ≤ result) × (result ≤ length input.now) }
-{
-    let mut end = at;
-    while end < input.len() {
-        if input[end] == b'~' {
-            return end;
-        }
-        end += 1;
-    }
-    end
-}
-
+// Each case, without the '~' that ends it.
 fn each<W: Write>(out: &mut W, input: &[u8]) -> io::Result<()> {
-    let mut at = 0;
-    while at < input.len() {
-        let end = mark(input, at);
-        run(out, &input[at..end])?;
-        if end < input.len() {
-            at = end + 1;
-        } else {
-            at = input.len();
-        }
+    for case in input.split_inclusive(|&byte| byte == b'~') {
+        run(out, case.strip_suffix(b"~").unwrap_or(case))?;
     }
     Ok(())
 }
@@ -168,6 +166,7 @@ fn refusals<W: Write>(out: &mut W) -> io::Result<()> {
 }
 
 // Reads until the buffer is full or the input ends, and returns how many bytes it put there.
+// Kept (point 3): `read_exact` says nothing of an input that ends before the buffer is full, and `read_to_end` needs a `Vec`.
 fn read_full<R: Read>(reader: &mut R, buffer: &mut [u8]) -> io::Result<usize>
     ensures { IfOk result (λ n. n ≤ length buffer.new) }
 {
