@@ -9,6 +9,7 @@ pub fn pack(code: u8, place: usize, rank: u8, index: u8, freedom: u8, blocks: u8
     requires { place ≤ 65535 }
     ensures { result ≡ packed code place rank index freedom blocks }
 {
+    // Kept (point 4): `as` is proved to lose nothing; `try_from` would hand back an error that cannot come.
     let [low, high] = (place as u16).to_le_bytes();
     u64::from_le_bytes([code, low, high, rank, index, freedom, blocks, 0])
 }

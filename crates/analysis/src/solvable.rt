@@ -84,6 +84,7 @@ pub fn solvable(table: &Table, answer: &mut [u8]) -> u64
 {
     let solution = solve(table);
     write(answer, table.equations, &solution);
+    // Kept (point 4): `as` is proved to lose nothing; `try_from` would hand back an error that cannot come.
     pack(
         0,
         0,

@@ -41,6 +41,7 @@ pub fn listed(stretch: &mut [u8], marks: &[bool])
 {
     unused(stretch);
     for (at, i) in (0..marks.len()).filter(|&i| marks[i]).enumerate() {
+        // Kept (point 4): `as` is proved to lose nothing; `try_from` would hand back an error that cannot come.
         stretch[at] = (i + 1) as u8;
     }
 }

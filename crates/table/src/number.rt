@@ -9,6 +9,8 @@ use crate::{LIMIT, Row};
 use laws::array::tabulated;
 use std::num::NonZeroU8;
 
+// Kept (point 5): that a number is at most the limit stays a clause of those who index by it, for `place`, `or_zero` and `numbers` take any number, and a
+// narrower type would ask more of their callers.
 #[derive(Clone, Copy, PartialEq, Eq, PartialOrd, Ord)]
 pub struct Equation(pub NonZeroU8);
 
@@ -30,6 +32,7 @@ pub trait Counted: Copy {
         requires { place < limit }
         ensures { number result ≡ place + 1 }
     {
+        // Kept (point 4): `as` is proved to lose nothing; `try_from` would hand back an error that cannot come.
         Self::numbered(NonZeroU8::MIN.saturating_add(place as u8))
     }
 
