@@ -3,7 +3,7 @@
 // independent computation.
 #![tactic(auto)]
 
-ghost use Rattle.std.specs.Prelude.{◌≡◌, ◌≤◌};
+ghost use Rattle.std.specs.Prelude.{◌≡◌, ◌≤◌, ◌<◌, length};
 ghost use Rattle.table.specs.Model.{limit};
 ghost use Rattle.counts.specs.Work.{Pairable};
 
@@ -21,12 +21,16 @@ use table::LIMIT;
 use table::number::numbers;
 use table::rows::Table;
 
-// A semicolon where a block ends, a comma inside one.
-fn print_split<W: Write>(out: &mut W, before: u8, number: u8) -> io::Result<()> {
-    if before == number {
-        print(out, b",")
+// What stands before a place: a semicolon where a block begins, a comma inside one.
+fn split_before(block: &[u8], place: usize) -> &[u8]
+    requires { place < length block.now }
+{
+    if place == 0 {
+        b""
+    } else if block[place - 1] == block[place] {
+        b","
     } else {
-        print(out, b";")
+        b";"
     }
 }
 
@@ -34,12 +38,9 @@ fn print_blocks<W: Write>(out: &mut W, placing: Placing, n: usize) -> io::Result
     requires { n ≤ limit }
 {
     let Placing { order, block, .. } = placing;
-    let order = numbers(order);
-    for i in 0..n {
-        if 0 < i {
-            print_split(out, block[i - 1], block[i])?;
-        }
-        print_number(out, u64::from(order[i]))?;
+    for (place, &number) in numbers(order)[..n].iter().enumerate() {
+        print(out, split_before(&block, place))?;
+        print_number(out, u64::from(number))?;
     }
     Ok(())
 }

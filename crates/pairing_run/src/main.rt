@@ -24,6 +24,7 @@ fn print_marked<W: Write>(out: &mut W, label: &[u8], marks: &[bool]) -> io::Resu
         return print(out, b"none");
     }
     for (at, i) in (0..marks.len()).filter(|&i| marks[i]).enumerate() {
+        // Kept (point 4): `as` is proved to lose nothing; `try_from` would hand back an error that cannot come.
         print_next(out, b",", at == 0, (i + 1) as u8)?;
     }
     Ok(())

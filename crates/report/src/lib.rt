@@ -96,6 +96,7 @@ fn put_analysis(out: &mut [u8], name: &[u8], found: &Analysis) -> usize
     requires { (length name.now ≤ 24) × (found.now.equations ≤ limit) }
     ensures { Laid out.old 0 (verdict_text name.now found.now.equations found.now.number found.now.answer) out.new result }
 {
+    // Kept (point 1): the C entry hands back one number, and its lowest byte is 0 for a solvable model alone (`code_zero`).
     let number = found.number;
     if number % 256 == 0 {
         put_solvable(out, name, found.equations, number, &found.answer)

@@ -1,4 +1,6 @@
 // The three texts: solvable, singular, refused. Each starts at the first byte and hands back its length.
+// Kept (point 5): that a name has at most 24 bytes and an answer 160 stands in several contracts; `put_solvable` and `put_singular` (docs/PROMISES.md) take
+// slices, and a type for either would ask more of whoever has one.
 ghost use Rattle.std.specs.Prelude.{◌≡◌, [], ◌∷◌, ◌++◌, ◌+◌, ◌*◌, ◌^◌, ◌≤◌, length};
 ghost use Rattle.table.specs.Model.{limit};
 ghost use Rattle.analysis.specs.Outcome.{answer_bytes};

@@ -16,6 +16,7 @@ fn pack(first: usize, second: usize, fourth: usize, fifth: usize) -> u64
     requires { (first ≤ 255) × (second ≤ 65535) × (fourth ≤ 65535) × (fifth ≤ 255) }
     ensures { result ≡ packed_card first second fourth fifth }
 {
+    // Kept (point 4): `u64::from` takes no usize.
     (first as u64)
         + (second as u64) * 256
         + (fourth as u64) * 16777216
@@ -74,6 +75,7 @@ pub extern "C" fn mudorder_name(card: &[u8]) -> u64
 pub extern "C" fn mudorder_report(card: &[u8], out: &mut [u8]) -> u64
     ensures { Reported card.now out.old result out.new }
 {
+    // Kept (point 4): as above.
     report(card, out) as u64
 }
 
