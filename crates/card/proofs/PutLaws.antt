@@ -5,7 +5,7 @@ use Prim.Native.Nat.{ℕ, suc, ◌+◌, ◌-◌, ◌/◌, ◌≤◌, ◌<◌}
 use native.Mathlib.Omega.{arith}
 use native.Mathlib.Numerals.{add-one}
 use lib.ListN.{length, get_or, take, drop, set, length-append, length-drop}
-use lib.Seq.{sets, length-sets, take-suc}
+use lib.Seq.{sets, take-suc}
 use borrow.Author.Rules.{part_to_end}
 use Rattle.card.specs.Text.{comma, digit_of, zeros_of, dec}
 use Rattle.card.specs.Laid.{Laid, LaidOn}
@@ -22,9 +22,6 @@ laid_then {a} {b} {c} {xs} {ys} {i} {j} {k} p q =
       list = q.list ∙ rw (p.list, p.place) (sets_append xs ys a i);
       place = let e = p.place in let f = q.place in rw (length-append xs ys) (omega arith);
     }
-
-pub laid_length : {a b xs : List ℕ} {i j : ℕ} → Laid a i xs b j → length b ≡ length a
-laid_length {a} {b} {xs} {i} p = ap length p.list ∙ length-sets a i xs
 
 pub laid_on_then : {a b c : Sheet} {xs ys : List ℕ} → LaidOn a xs b → LaidOn b ys c → LaidOn a (xs ++ ys) c
 laid_on_then p q = record { same = q.same ∙ p.same; laid = laid_then p.laid q.laid }

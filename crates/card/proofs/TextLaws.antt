@@ -2,7 +2,7 @@
 use mathlib.Core.Path.{◌≡◌, refl, ap, sym, ◌∙◌}
 use mathlib.Core.Bool.{true, false}
 use mathlib.Core.List.{List, [], ◌∷◌}
-use Prim.Native.Nat.{ℕ, zero, suc, ◌+◌, ◌-◌, ◌*◌, ◌^◌, ◌≤◌, ◌<◌, min}
+use Prim.Native.Nat.{ℕ, suc, ◌+◌, ◌-◌, ◌*◌, ◌^◌, ◌≤◌, ◌<◌, min}
 use native.Mathlib.Omega.{arith}
 use native.Mathlib.Numerals.{add-one}
 use lib.Dec.{leb, eqb}
@@ -29,11 +29,6 @@ digit_low b h = leb-true 48 b (and_left (leb 48 b) (leb b 57) h)
 
 pub digit_high : (b : ℕ) → is_digit b ≡ true → b ≤ 57
 digit_high b h = leb-true b 57 (and_right (leb 48 b) (leb b 57) h)
-
--- no further digit: the text ends, or four are taken
-digits_end : (more value took : ℕ) → digits_of more value took [] ≡ number value took
-digits_end zero value took = refl
-digits_end (suc more) value took = refl
 
 -- what the loop over digits keeps: the number is what is read so far, with the digits to come
 pub record Taken (text : List ℕ) (d : Number) (i : ℕ) : Type 0 where

@@ -25,9 +25,6 @@ use Rattle.card.specs.Laid.{Laid, LaidOn}
 use Rattle.card.specs.declared.put.Sheet.{Sheet}
 use Rattle.card.proofs.PutLaws.{laid_on_then, dec_short}
 
-pub laid_same : {a b xs ys : List ℕ} {i j : ℕ} → xs ≡ ys → Laid a i xs b j → Laid a i ys b j
-laid_same e k = rw e at k
-
 -- the parts of an occurs line
 pub occurs_parts : (e u k : ℕ)
     → (((occurs_key ++ (dec e ++ comma ∷ [])) ++ (dec u ++ comma ∷ [])) ++ dec k) ++ LF ∷ [] ≡ line_of (occurs_key ++ dec e ++ comma ∷ dec u ++ comma ∷ dec k)

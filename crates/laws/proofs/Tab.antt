@@ -72,9 +72,6 @@ module _ {A : Type 0} where
           rw e (get_or-set_same (tab n (upto i f g)) i (f i) (f 0) (rw (length_tab n (upto i f g)) b) ∙ sym (upto_below (i + 1) f g i (omega arith))))
           (λ t. get_or-set_other (tab n (upto i f g)) i k (f i) (f 0) (eqb-false k i t) ∙ get_or_tab n (upto i f g) k (f 0) h ∙ done k h (eqb-false k i t))
 
-  pub fill_end : (n : ℕ) (f g : ℕ → A) → tab n (upto n f g) ≡ tab n f
-  fill_end n f g = tab_ext n (upto n f g) f (λ i b. upto_below n f g i b)
-
 -- a list whose places are all given
 pub whole_tab : {A : Type 0} (n : ℕ) (f : ℕ → A) (a : A) → tab n (λ i. pick (ltb i n) (f i) a) ≡ tab n f
 whole_tab n f a = tab_ext n (λ i. pick (ltb i n) (f i) a) f (λ i b. rw (lt-ltb i n b))

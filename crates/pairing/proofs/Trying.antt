@@ -11,9 +11,9 @@ use lib.ListN.{length, set, length-set}
 use lib.Seq.{get_or-set_same, get_or-set_other}
 use borrow.Author.Tests.{eqb-true, eqb-false, eq-eqb, lt-ltb, ltb-true, not-false}
 use Rattle.laws.specs.Marks.{marked}
-use Rattle.laws.specs.Tab.{tab, upto}
+use Rattle.laws.specs.Tab.{tab}
 use Rattle.laws.proofs.Tests.{test, tests, given, clash, true≢false, not_true}
-use Rattle.laws.proofs.Tab.{get_or_tab, get_or_past, tab_ext}
+use Rattle.laws.proofs.Tab.{get_or_tab, get_or_past}
 use Rattle.table.specs.Model.{limit}
 use Rattle.std.specs.Option.{MatchOption}
 use Rattle.std.specs.Bool.{then_some}
@@ -40,10 +40,6 @@ marks_are k i t = test (ltb i limit)
 
 pub are_marks : (k i : ℕ) → k ≤ limit → i < k → marked (marks k) i ≡ true
 are_marks k i l b = get_or_tab limit (λ x. ltb x k) i false (omega arith) ∙ lt-ltb i k b
-
--- marking one after the other
-as_filled : (k : ℕ) → marks k ≡ tab limit (upto k (λ i. true) (λ i. false))
-as_filled k = tab_ext limit (λ i. ltb i k) (upto k (λ i. true) (λ i. false)) (λ i b. test (ltb i k) (λ t. rw t) (λ t. rw t))
 
 -- what e holds is the unknown found
 pub owns : {n : ℕ} {edge : Rel} {h : List (Option Equation)} {e w : ℕ} → Full n n edge (held h) → e < n → HeldBy n h e w → (w ≡ 0 → ⊥) × ((w - 1 < n) × (held h e (w - 1) ≡ true))

@@ -23,11 +23,8 @@ use Rattle.report.specs.Printed.{refused_text, PrintedOf, Printed, input_limit, 
 use Rattle.report.specs.Steps.{verdict_text, findings_text, Analysed, Examined}
 use Rattle.report.specs.declared.Analysis.{Analysis}
 use Rattle.report.specs.declared.Unfit.{Unfit}
-use Rattle.report.specs.declared.Unfit.TheVariants.{TooLong, Faulty}
+use Rattle.report.specs.declared.Unfit.TheVariants.{Faulty}
 use Rattle.report.proofs.Truth.{answered_prints}
-
-pub examined_long : (s : List ℕ) → input_limit < length s → Examined s (Err TooLong)
-examined_long s h = record { printed = record { long = λ _. refl; short = λ k. absurd (omega arith) }; within = tt }
 
 -- what `?` makes of a refusal
 pub faulty_is : {A : Type 0} (r : Result A Unfit) (why : Refused) → IsErrAnd r (λ u. u ≡ Faulty why) → r ≡ Err (Faulty why)
