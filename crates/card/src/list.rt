@@ -1,5 +1,5 @@
 // The occurs lines and the end line.
-ghost use Rattle.std.specs.Prelude.{◌≡◌, true, ◌≤◌, length, drop};
+ghost use Rattle.std.specs.Prelude.{◌≡◌, ◌≤◌, length, drop};
 ghost use Rattle.card.specs.Text.{lines_of};
 ghost use Rattle.table.specs.Number.{equation_number, unknown_number};
 ghost use Rattle.card.specs.declared.entry.Entry.TheVariants.{Occurs};
