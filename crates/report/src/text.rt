@@ -1,7 +1,7 @@
 // The three texts: solvable, singular, refused. Each starts at the first byte and hands back its length.
 // Kept (point 5): that a name has at most 24 bytes and an answer 160 stands in several contracts; `put_solvable` and `put_singular` (docs/PROMISES.md) take
 // slices, and a type for either would ask more of whoever has one.
-ghost use Rattle.std.specs.Prelude.{◌≡◌, [], ◌∷◌, ◌++◌, ◌+◌, ◌*◌, ◌^◌, ◌≤◌, length};
+ghost use Rattle.std.specs.Prelude.{◌≡◌, [], ◌∷◌, ◌++◌, ◌+◌, ◌*◌, ◌^◌, ◌≤◌, ◌<◌, length};
 ghost use Rattle.table.specs.Model.{limit};
 ghost use Rattle.analysis.specs.Outcome.{answer_bytes};
 ghost use Rattle.card.specs.Text.{LF, dec};
@@ -117,7 +117,7 @@ pub fn put_singular(out: &mut [u8], name: &[u8], number: u64, answer: &[u8]) -> 
 // The digits of a place.
 #[tactic(auto, using(card::proofs::PutLaws::dec_short, crate::proofs::TextLaws::place_four, crate::proofs::TextLaws::place_five))]
 fn put_place(sheet: &mut Sheet, place: usize)
-    requires { sheet.old.at ≤ 2 ^ 32 }
+    requires { sheet.old.at + 5 < 2 ^ 64 }
     ensures text { LaidOn sheet.old (place_dec place) sheet.new }
     ensures near { sheet.new.at ≤ sheet.old.at + 5 }
 {
