@@ -62,6 +62,7 @@ fn solve(table: &Table) -> Solution
 }
 
 // Each of the five strips, through its own stretch.
+// Kept (point 5): `answer_bytes ≤ length answer` stands in four contracts, for the buffer is the caller's, and one of 160 bytes would ask more.
 fn write(answer: &mut [u8], n: usize, solution: &Solution)
     requires { (answer_bytes ≤ length answer.old) × (n ≤ limit) }
     ensures { answer.new ≡ strips (take n solution.now.counts) (take n solution.now.tops)

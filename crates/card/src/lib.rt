@@ -55,6 +55,7 @@ pub fn read(card: &[u8], table: &mut [u8]) -> Result<Size, Refused>
 }
 
 // The part of the card that holds the name; where the card is refused, the part of length 0 at its start.
+// Kept (point 1): an empty part in place of `None`, for document 01 asks for a part of the caller's card, of length 0 on a refusal.
 pub fn name_of(card: &[u8]) -> &[u8]
     ensures { NamePart card.entry result }
 {

@@ -52,6 +52,7 @@ impl<'a> Sheet<'a> {
     }
 
     // The decimal digits of a number up to 9999.
+    // Kept (point 4): no `Display`, for `put_number` promises of every number the last four digits (`dec`), and where there is no room it counts.
     #[tactic(auto, using(crate::proofs::PutLaws::digits_laid))]
     pub fn put_number(&mut self, n: usize)
         requires { self.old.at + 4 < 2 ^ 64 }

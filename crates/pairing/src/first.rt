@@ -15,6 +15,8 @@ use table::number::{Counted, Equation, Unknown};
 use table::rows::Table;
 
 // The lowest unknown that the equation holds.
+// Kept (point 5): here and in `left::held_count` the holders come with the number of unknowns alone, and its one bound stays a clause; a whole table would be
+// handed in for that number.
 fn held_by(unknowns: usize, e: Equation, holders: &Holders) -> Option<Unknown>
     requires { unknowns ≤ limit }
     ensures { HeldBy unknowns holders.now (equation_number e - 1) (or_zero unknown_number result) }

@@ -115,6 +115,7 @@ pub fn put_singular(out: &mut [u8], name: &[u8], number: u64, answer: &[u8]) -> 
 }
 
 // The digits of a place.
+// Kept (point 4): no `Display`, for it is laid on a sheet, which counts where there is no room, and says the definition's digits (`place_dec`).
 #[tactic(auto, using(card::proofs::PutLaws::dec_short, crate::proofs::TextLaws::place_four, crate::proofs::TextLaws::place_five))]
 fn put_place(sheet: &mut Sheet, place: usize)
     requires { sheet.old.at + 5 < 2 ^ 64 }

@@ -79,7 +79,7 @@ pub extern "C" fn mudorder_report(card: &[u8], out: &mut [u8]) -> u64
     report(card, out) as u64
 }
 
-// The analysis. An archive exports the functions of its own crate alone, so the entry of `analysis` is handed on under its own name.
+// Kept (point 2): the analysis. An archive exports the functions of its own crate alone, so the entry of `analysis` is handed on under its own name.
 #[unsafe(no_mangle)]
 pub extern "C" fn mudorder_analyse(
     equations: usize,
