@@ -1,11 +1,11 @@
 -- Laws of what a card comes to: a refusal of its own, or what the analysis hands back for its table; and of the two ends of the report.
 use mathlib.Core.Path.{◌≡◌, refl, ap, sym, ◌∙◌}
 use mathlib.Core.List.{List, [], ◌++◌}
-use Prim.Native.Nat.{ℕ, ◌+◌, ◌*◌, ◌≤◌, ◌<◌}
+use Prim.Native.Nat.{ℕ, ◌+◌, ◌*◌, ◌≤◌}
 use native.Mathlib.Omega.{arith}
 use lib.ListN.{length, take, drop, replicate}
 use lib.Seq.{sets-eq, take_at}
-use borrow.Author.Tests.{le-leb, le-ltb, lt-leb}
+use borrow.Author.Tests.{le-leb, le-ltb}
 use Rattle.table.specs.Model.{limit}
 use Rattle.table.proofs.Model.{limits}
 use Rattle.card.specs.Card.{Judged, refused, good, judged, read_of, name_of}
@@ -31,11 +31,8 @@ pub faulty_is : {A : Type 0} (r : Result A Unfit) (why : Refused) → IsErrAnd r
 faulty_is (Ok a) why h = absurd h
 faulty_is (Err u) why h = ap Err h
 
--- of a good card: E × U is small, and what is found is what the analysis hands back for its table
+-- of a good card what is found is what the analysis hands back for its table
 module _ (s name : List ℕ) (E U : ℕ) (t : List ℕ) (p : judged s ≡ good name E U t) {x y : ℕ} (e : x ≡ E) (u : y ≡ U) where
-  good_size : x * y ≤ limit * limit
-  good_size = rw (e, u) (cells_within E U (good_card s name E U t p).fine.limits)
-
   good_found : (after rest : List ℕ) {f : Analysis} → length s ≤ input_limit → after ≡ t ++ rest → length t ≡ E * U
       → Analysed x y (take (x * y) after) f → Examined s (Ok f)
   good_found after rest {f} h b l d =
@@ -69,28 +66,18 @@ module _ {s after : List ℕ} {r : Result Size Refused} (h : length s ≤ input_
     said : ReadGood s (replicate {A = ℕ} (limit * limit) 0) r after
     said = read_good k (ap number_in n)
 
-    pub size_small : size.equations * size.unknowns ≤ limit * limit
-    size_small = let w = said.says in good_size s w.name w.E w.U w.t w.is (sym (ap equations_in n) ∙ said.equations) (sym (ap unknowns_in n) ∙ said.unknowns)
-
     pub examined_good : {f : Analysis} → Analysed size.equations size.unknowns (take (size.equations * size.unknowns) after) f → Examined s (Ok f)
     examined_good d =
         let w = said.says in
         let rest = drop (w.E * w.U) (replicate {A = ℕ} (limit * limit) 0) in
         good_found s w.name w.E w.U w.t w.is (sym (ap equations_in n) ∙ said.equations) (sym (ap unknowns_in n) ∙ said.unknowns) after rest h said.bytes said.sized d
 
--- ---- the report's two ends: there is no room, and there is
+-- ---- the report where there is room
 
 module _ (before : List ℕ) {s name l : List ℕ} {f : Result Analysis Unfit} {r : ℕ} (k : Examined s f) (e : name ≡ name_of (judged s))
     (m : Laid [] 0 (findings_text name f) l r) where
   printed_is : Printed s (findings_text name f)
   printed_is = rw e k.printed
-
-  pub reported_none : length (l ++ before) < r → Reported s before r (l ++ before)
-  reported_none h =
-      let z : l ≡ [] = laid_nothing m in
-      let p = m.place in
-      let n : length before < r = rw z at h in
-      record { text = findings_text name f; printed = printed_is; size = omega arith; bytes = rw (z, lt-leb (length (findings_text name f)) (length before) (omega arith)) }
 
   pub reported_all : {after : List ℕ} {q : ℕ} → r ≤ length (l ++ before) → Laid (l ++ before) 0 (findings_text name f) after q → Reported s before q after
   reported_all {after} {q} h w =

@@ -118,6 +118,7 @@ fn put_text(out: &mut [u8], name: &[u8], found: &Result<Analysis, Unfit>) -> usi
 
 // The printed result of a card: hands back its length, and writes it into the first bytes where there is room for all of it. It asks nothing of its
 // caller. The text is measured first, by laying it into a part of length 0.
+#[tactic(auto, using(card::proofs::Theorems::name_fits))]
 pub fn report(card: &[u8], out: &mut [u8]) -> usize
     ensures { Reported card.now out.old result out.new }
 {
