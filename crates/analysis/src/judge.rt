@@ -20,6 +20,7 @@ pub enum Refusal {
 
 impl Refusal {
     // The number that document 01 gives it.
+    // Kept (point 4): no `From<Refusal> for u8`, which would be the same `match`.
     pub fn number(self) -> u8
         ensures { result ≡ number_of self }
     {

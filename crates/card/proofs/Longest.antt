@@ -1,4 +1,4 @@
--- The longest card has 14,847 bytes, and list_all place of a refusal is at most that, whatever the input's length:
+-- The longest card has 14,847 bytes, and every place of a refusal is at most that, whatever the input's length:
 -- the lines before a place are those of different pairs, each at most as long as its pair's line can be.
 use mathlib.Core.Path.{◌≡◌, refl, ap, ◌∙◌}
 use mathlib.Core.Bool.{true}

@@ -309,6 +309,6 @@ number_is s n t e =
       took = r.took ∙ (let z : 1 + length r.ds ≡ suc (length r.ds) = omega arith in z) ∙ ap length (sym d);
     }
 
--- list_all byte of it is a digit
+-- every byte of it is a digit
 pub dec_digits : (n : ℕ) → n ≤ 9999 → list_all is_digit (dec n) ≡ true
 dec_digits n h = let d = digits n h in rw d.is (and_both d.spelling.first d.spelling.digits)

@@ -1,5 +1,5 @@
 -- What the promises of `read`, `write` and `name_of` come to: one outcome each, which inputs are good, what succeeds and what a refusal leaves alone,
--- both round trips, and the bounds of list_all number. Each goes by the cases of `judged`, or by the writer's tests one after another.
+-- both round trips, and the bounds of every number. Each goes by the cases of `judged`, or by the writer's tests one after another.
 use mathlib.Core.Path.{◌≡◌, refl, ap, sym, ◌∙◌}
 use mathlib.Core.Bool.{◌&&◌}
 use mathlib.Core.List.{List, ◌++◌}

@@ -30,7 +30,7 @@ use Rattle.card.proofs.ListLaws.{cells_within}
 abbrev pub small : ℕ → Bool
 small x = leb x top_code
 
--- no code above 4: list_all one is at most 4
+-- no code above 4: every one is at most 4
 pub codes_small : (t : List ℕ) → eqb (first_above t) (length t) ≡ true → list_all small t ≡ true
 codes_small [] h = refl
 codes_small (x ∷ t) h =

@@ -66,7 +66,7 @@ fn put_head(sheet: &mut Sheet, name: &[u8], equations: usize, unknowns: usize)
 }
 
 // The whole card, from the first byte on.
-// Kept (point 5): no `Limits` in place of `equations` and `unknowns`, since this function asks nothing of the equations and may not ask more.
+// Kept (point 5): here, in `put_cells` and in `put_cell` U is a bare number within the limit; a `Limits` would bring an E that none of them reads.
 #[tactic(auto, using(crate::proofs::WriteLaws::head_short, crate::proofs::WriteLaws::lines_short))]
 pub fn put_card(
     card: &mut [u8],

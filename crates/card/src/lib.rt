@@ -69,6 +69,7 @@ pub fn name_of(card: &[u8]) -> &[u8]
 }
 
 // The card of a name and a table, written over the first bytes of the card buffer: its length; where it is refused, nothing is written.
+// Kept (point 5): name, E, U and table are what the C entry is handed, each judged in its turn.
 pub fn write(
     name: &[u8],
     equations: usize,

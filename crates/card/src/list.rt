@@ -104,7 +104,7 @@ pub fn read_list(card: &[u8], from: usize, limits: Limits) -> Result<[u8; CELLS]
     let mut last = None;
     let mut count = 0;
     let mut at = from;
-    // Kept (point 3): each line tells where the next one starts and the end line ends the loop, so no range and no slice gives the steps.
+    // Kept (point 3): `split_inclusive` would give the lines without their places, which the refusals need, and those would be counted by hand beside them.
     loop {
         match read_turn(card, at, limits, last)? {
             Turn::Last { count: said, next } => {

@@ -4,6 +4,8 @@ ghost use Rattle.card.specs.Text.{comma, digit_of, zeros_of, dec};
 ghost use Rattle.card.specs.Card.{line_of};
 ghost use Rattle.card.specs.Laid.{LaidOn};
 
+// Kept (point 5): how far the place may go stays a clause, for each method asks that its own bytes fit and no more; a bound in the type would ask more.
+
 // A buffer, and the place of its next byte. Where there is no room a byte is counted and not written, so that a card is measured by laying it into nothing.
 #[derive(Drop)]
 pub struct Sheet<'a> {

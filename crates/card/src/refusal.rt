@@ -34,6 +34,7 @@ pub struct Refused {
 }
 
 impl Refusal {
+    // Kept (point 4): no `From<Refusal> for u8`, which would be the same `match`; the numbers stand in the definition (document 01).
     pub fn number(self) -> u8
         ensures { result ≡ refusal_number self }
     {

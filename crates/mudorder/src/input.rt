@@ -6,6 +6,7 @@ use std::io;
 use std::io::Read;
 
 // What became of an input that no read failed of.
+// Kept (point 1): an `Option` of the count would not say that `None` is the full buffer.
 #[derive(Clone, Copy)]
 pub enum Input {
     // It ended behind so many bytes, and they stand in the buffer.

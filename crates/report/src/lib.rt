@@ -31,6 +31,7 @@ pub enum Unfit {
 }
 
 impl Unfit {
+    // Kept (point 4): no `From<Unfit> for u8`, which would be the same `match`.
     fn number(self) -> u8
         ensures { result ≡ unfit_number self }
     {
@@ -59,6 +60,7 @@ impl From<Refused> for Unfit {
 }
 
 // What the analysis handed back of a card.
+// Kept (point 5): that its equations are within the limit stays a clause, for `analysed` takes any E and U, as the analysis does.
 #[derive(Clone, Copy)]
 pub struct Analysis {
     pub equations: usize,

@@ -1,5 +1,5 @@
 // The three texts: solvable, singular, refused. Each starts at the first byte and hands back its length.
-// Kept (point 5): that a name has at most 24 bytes and an answer 160 stands in several contracts; `put_solvable` and `put_singular` (docs/PROMISES.md) take
+// Kept (point 5): that a name has at most 24 bytes, a list 32 and an answer 160 stands in several contracts; `put_solvable` and `put_singular` (docs/PROMISES.md) take
 // slices, and a type for either would ask more of whoever has one.
 ghost use Rattle.std.specs.Prelude.{◌≡◌, [], ◌∷◌, ◌++◌, ◌+◌, ◌*◌, ◌^◌, ◌≤◌, ◌<◌, length};
 ghost use Rattle.table.specs.Model.{limit};
@@ -137,6 +137,7 @@ fn put_place(sheet: &mut Sheet, place: usize)
 }
 
 // A refusal: its number and its place, and nothing else.
+// Kept (point 1): it takes a number, since docs/PROMISES.md names it, with `refused_text` of every number.
 pub fn put_refused(out: &mut [u8], number: u8, place: usize) -> usize
     ensures { Laid out.old 0 (refused_text number place) out.new result }
 {

@@ -16,7 +16,7 @@ fn pack(first: usize, second: usize, fourth: usize, fifth: usize) -> u64
     requires { (first ≤ 255) × (second ≤ 65535) × (fourth ≤ 65535) × (fifth ≤ 255) }
     ensures { result ≡ packed_card first second fourth fifth }
 {
-    // Kept (point 4): `u64::from` takes no usize.
+    // Kept (point 4): `u64::from` takes no usize, and the fourth may take two bytes, so no array of bytes is the number.
     (first as u64)
         + (second as u64) * 256
         + (fourth as u64) * 16777216
@@ -75,11 +75,12 @@ pub extern "C" fn mudorder_name(card: &[u8]) -> u64
 pub extern "C" fn mudorder_report(card: &[u8], out: &mut [u8]) -> u64
     ensures { Reported card.now out.old result out.new }
 {
-    // Kept (point 4): as above.
+    // Kept (point 4): `u64::from` takes no usize.
     report(card, out) as u64
 }
 
-// Kept (point 2): the analysis. An archive exports the functions of its own crate alone, so the entry of `analysis` is handed on under its own name.
+// The analysis.
+// Kept (point 2): an archive exports the functions of its own crate alone, so the entry of `analysis` is handed on under its own name.
 #[unsafe(no_mangle)]
 pub extern "C" fn mudorder_analyse(
     equations: usize,
