@@ -19,7 +19,7 @@ use Rattle.std.specs.declared.option.Option.TheVariants.{None}
 use Rattle.table.specs.Number.{or_zero, equation_number}
 use Rattle.table.specs.declared.number.Equation.{Equation}
 use Rattle.pairing.specs.Pairing.{Rel}
-use Rattle.pairing.specs.Holders.{holder, held, Reach, start, step, Found, Nothing, Asking, Searched}
+use Rattle.pairing.specs.Holders.{holder, held, Reach, start, step, Found, Nothing, Asking}
 use Rattle.pairing.specs.Looking.{FreeIn, AllHeld, NextIn}
 use Rattle.pairing.proofs.Give.{Given, given_pairing}
 
@@ -189,14 +189,6 @@ pub fewer : {n : ℕ} {edge : Rel} {f : ℕ} {h : List (Option Equation)} (a : L
     → Turn n edge f h (set a f true) b w → falses b < falses a
 fewer {f = f} a {b = b} la lb l fresh t =
     given (turn_asked a (rw la l) t) (λ (self, more). falses_fall a b (la ∙ sym lb) more f fresh self)
-
--- what a search hands back, by whether the asker got an unknown
-module _ {m n : ℕ} {edge : Rel} {f : ℕ} {a a' : List Bool} {h h' : List (Option Equation)} {got : ℕ} where
-  pub has_found : (got ≡ 0 → ⊥) → Found m n edge f a h h' × (held h' f (got - 1) ≡ true) → Searched m n edge f a h got h' a'
-  has_found ne r = record { found = λ _. r; nothing = λ z. absurd (ne z) }
-
-  pub has_nothing : got ≡ 0 → h' ≡ h → Nothing n edge f a a' h → Searched m n edge f a h got h' a'
-  has_nothing z q r = record { found = λ ne. absurd (ne z); nothing = λ _. (q, r) }
 
 -- what is asked of fewer equations is asked of as many as there may be
 pub widen : {m n : ℕ} {edge : Rel} {f : ℕ} {a : List Bool} {h : List (Option Equation)} → Asking m n edge f a h → Asking limit n edge f a h

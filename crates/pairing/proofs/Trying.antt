@@ -22,7 +22,7 @@ use Rattle.std.specs.declared.option.Option.TheVariants.{None}
 use Rattle.table.specs.Number.{or_zero, equation_number}
 use Rattle.table.specs.declared.number.Equation.{Equation}
 use Rattle.pairing.specs.Pairing.{Rel, Full}
-use Rattle.pairing.specs.Holders.{holder, held, Asking, Searched, Found}
+use Rattle.pairing.specs.Holders.{holder, held, Asking, Found, Nothing}
 use Rattle.pairing.specs.Choosing.{HeldBy, Keeps, Tried}
 use Rattle.pairing.proofs.Sizes.{full_turned}
 use Rattle.pairing.proofs.Give.{Given}
@@ -107,9 +107,9 @@ module _ {n : ℕ} {edge : Rel} {h k : List (Option Equation)} {e w : ℕ} (full
     moved f = moves may_ask holds fresh
         (are_marks (suc e) e (omega arith) (omega arith), λ i t. let z = marks_are e i t in are_marks (suc e) i (omega arith) (omega arith)) gv f
 
-    tried_search : {got : ℕ} {k'' : List (Option Equation)} {b : List Bool} → Searched n n edge g (marks (suc e)) k' got k'' b → Tried n edge e u h (not (eqb got 0)) k''
-    tried_search {got} s = record {
-      yes = λ t. given (moved (s.found (λ z. clash t (rw (eq-eqb got 0 z)))).0) (λ (f, has). (
+    tried_found : {k'' : List (Option Equation)} → Found n n edge g (marks (suc e)) k' k'' → Tried n edge e u h true k''
+    tried_found s = record {
+      yes = λ t. given (moved s) (λ (f, has). (
         record {
           ok = f.ok;
           every = λ i b. test (eqb i e) (λ q. rw (eqb-true i e q) f.gained)
@@ -118,7 +118,13 @@ module _ {n : ℕ} {edge : Rel} {h k : List (Option Equation)} {e w : ℕ} (full
         has,
         λ i v b x. f.untouched i v (are_marks e i (omega arith) b) (others i v (λ q. absurd (omega arith)) x),
       ));
-      no = λ t q keep same. refuted holder_asks (s.nothing (got_none t)).1 q keep.ok (λ i m.
+      no = λ t. absurd (true≢false t);
+    }
+
+    tried_nothing : {b : List Bool} → Nothing n edge g (marks (suc e)) b k' → Tried n edge e u h false h
+    tried_nothing s = record {
+      yes = λ t. absurd (true≢false (sym t));
+      no = λ t q keep same. refuted holder_asks s q keep.ok (λ i m.
           let z = marks_are (suc e) i m in
           test (eqb i e)
           (λ p. rw (eqb-true i e p) (rw same gv.here))
@@ -126,9 +132,6 @@ module _ {n : ℕ} {edge : Rel} {h k : List (Option Equation)} {e w : ℕ} (full
           (others i (q i) (eqb-false i e p) (keep.agrees i (omega (arith, tests))))));
     }
       where
-        got_none : not (eqb got 0) ≡ false → got ≡ 0
-        got_none t = eqb-true got 0 (not-false (eqb got 0) t)
-
         given_away : (q : ℕ → ℕ) → Keeps n edge h e q → (i : ℕ) → i < e → q i ≡ u → ⊥
         given_away q keep i b o = let z = full.ok.one_e i g u (rw o at (keep.agrees i b)) hg in omega arith
 
@@ -167,8 +170,11 @@ module _ {n : ℕ} {edge : Rel} {h : List (Option Equation)} {e u w : ℕ} {x : 
   pub swapped_asks : Asking n n edge (holder h u - 1) (marks (suc e)) swapped
   swapped_asks = holder_asks a.full a.equation a.limits a.own released swapped a.occurs by after taken
 
-  pub swapped_tried : {got : ℕ} {k : List (Option Equation)} {b : List Bool} → Searched n n edge (holder h u - 1) (marks (suc e)) swapped got k b → Tried n edge e u h (not (eqb got 0)) k
-  swapped_tried = tried_search a.full a.equation a.limits a.own released swapped a.occurs by after taken
+  pub swapped_found : {k : List (Option Equation)} → Found n n edge (holder h u - 1) (marks (suc e)) swapped k → Tried n edge e u h true k
+  swapped_found = tried_found a.full a.equation a.limits a.own released swapped a.occurs by after taken
+
+  pub swapped_nothing : {b : List Bool} → Nothing n edge (holder h u - 1) (marks (suc e)) b swapped → Tried n edge e u h false h
+  swapped_nothing = tried_nothing a.full a.equation a.limits a.own released swapped a.occurs by after taken
 
 -- e, or an equation before it, holds the unknown
 pub tried_held : {n : ℕ} {edge : Rel} {e u : ℕ} {h : List (Option Equation)} {x : ℕ} → Full n n edge (held h) → e < n → u < n → x ≡ suc e → holder h u ≤ x

@@ -1,11 +1,12 @@
 -- A pairing as the code has it: for each unknown its holder, an equation's number, or 0 where nobody holds it. And what one search does to it.
-use Rattle.std.specs.Prelude.{◌≡◌, Bool, true, false, List, ◌⊎◌, ℕ, suc, ◌-◌, ◌<◌, ◌≤◌, eqb}
+use Rattle.std.specs.Prelude.{◌≡◌, Bool, true, false, Result, Ok, Err, List, ◌⊎◌, ℕ, suc, ◌-◌, ◌<◌, ◌≤◌, eqb}
 use Rattle.laws.specs.Marks.{marked}
 use Rattle.table.specs.Model.{limit}
-use Rattle.table.specs.Number.{equation_at}
+use Rattle.table.specs.Number.{equation_at, unknown_number}
 use Rattle.std.specs.declared.option.Option.{Option}
 use Rattle.table.specs.declared.number.Equation.{Equation}
 use Rattle.pairing.specs.Pairing.{Rel, Pairing, LeftOver}
+use Rattle.pairing.specs.declared.search.Gain.{Gain}
 
 -- the number of the equation that holds unknown u, or 0
 abbrev pub holder : List (Option Equation) → ℕ → ℕ
@@ -49,8 +50,7 @@ pub record Asking (m n : ℕ) (edge : Rel) (f : ℕ) (asked : List Bool) (holder
   pub free : LeftOver (held holders) f
   pub ok : Pairing m n edge (held holders)
 
--- what a search hands back: the number of the unknown that the asker got, or 0; the holders; who was asked
-pub record Searched (m n : ℕ) (edge : Rel) (f : ℕ) (asked : List Bool) (holders : List (Option Equation)) (got : ℕ) (holders' : List (Option Equation)) (asked' : List Bool)
-    : Type 0 where
-  pub found : (got ≡ 0 → ⊥) → Found m n edge f asked holders holders' × (held holders' f (got - 1) ≡ true)
-  pub nothing : got ≡ 0 → (holders' ≡ holders) × Nothing n edge f asked asked' holders
+-- what a search hands back: the unknown that the asker got, and the holders; or who was asked in vain
+abbrev pub Searched : ℕ → ℕ → Rel → ℕ → List Bool → List (Option Equation) → Result Gain (List Bool) → Type 0
+Searched m n edge f asked holders (Ok gain) = Found m n edge f asked holders gain.holders × (held gain.holders f (unknown_number gain.got - 1) ≡ true)
+Searched m n edge f asked holders (Err asked') = Nothing n edge f asked asked' holders

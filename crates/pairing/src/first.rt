@@ -54,9 +54,10 @@ fn trial(table: &Table, e: Equation, u: Unknown, holders: &Holders) -> Option<Ho
     let mut given = *holders;
     given[own.place()] = None;
     given[u.place()] = Some(e);
-    let answer = search(table, holder, given, up_to(e));
-    let moved = answer.holders;
-    answer.got.is_some().then_some(moved)
+    match search(table, holder, given, up_to(e)) {
+        Ok(gain) => Some(gain.holders),
+        Err(_) => None,
+    }
 }
 
 // The pairing in which the equation has the first unknown that it can have.

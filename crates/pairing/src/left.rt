@@ -35,11 +35,9 @@ fn largest(table: &Table) -> Pairs
     let mut holders = [None; LIMIT];
     let mut over = [false; LIMIT];
     for e in 0..table.equations {
-        let answer = search(table, Equation::at(e), holders, over);
-        if answer.got.is_some() {
-            holders = answer.holders;
-        } else {
-            over = answer.asked;
+        match search(table, Equation::at(e), holders, over) {
+            Ok(gain) => holders = gain.holders,
+            Err(asked) => over = asked,
         }
     }
     Pairs { holders, over }

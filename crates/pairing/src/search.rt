@@ -10,14 +10,11 @@ use crate::{Holders, Marks};
 use table::number::{Counted, Equation, Unknown};
 use table::rows::Table;
 
+// What the asker got, and who holds each unknown afterwards.
 #[derive(Clone, Copy)]
-pub struct Answer {
-    // The unknown that the asker got.
-    pub got: Option<Unknown>,
-    // Who holds each unknown afterwards.
+pub struct Gain {
+    pub got: Unknown,
     pub holders: Holders,
-    // Who was asked, those asked before included.
-    pub asked: Marks,
 }
 
 // The lowest unknown of the asker that nobody holds.
@@ -55,47 +52,39 @@ fn next_held(
 }
 
 // One search. It calls itself on the present holder of an unknown that it needs; what falls is the number of those not yet asked.
-pub fn search(table: &Table, asker: Equation, holders: Holders, asked: Marks) -> Answer
+// Where it finds nothing it hands back who was asked, those asked before included.
+pub fn search(
+    table: &Table,
+    asker: Equation,
+    holders: Holders,
+    asked: Marks,
+) -> Result<Gain, Marks>
     requires { Asking limit table.now.unknowns (occurs_at table.now.rows) (equation_number asker - 1) asked holders }
     ensures { (m : ℕ) → Asking m table.now.unknowns (occurs_at table.now.rows) (equation_number asker - 1) asked holders
-        → Searched m table.now.unknowns (occurs_at table.now.rows) (equation_number asker - 1) asked holders
-        (or_zero unknown_number result.got) result.holders result.asked }
+        → Searched m table.now.unknowns (occurs_at table.now.rows) (equation_number asker - 1) asked holders result }
 {
     let mut holders = holders;
     let mut asked = asked;
     asked[asker.place()] = true;
-    let free = free_unknown(table, asker, &holders);
-    if let Some(unknown) = free {
-        holders[unknown.place()] = Some(asker);
-        return Answer {
-            got: free,
-            holders,
-            asked,
-        };
+    if let Some(got) = free_unknown(table, asker, &holders) {
+        holders[got.place()] = Some(asker);
+        return Ok(Gain { got, holders });
     }
     let mut wanted = next_held(table, asker, 0, &holders, &asked);
-    while let Some(unknown) = wanted {
-        let place = unknown.place();
+    while let Some(got) = wanted {
+        let place = got.place();
         let holder = holders[place].unwrap();
         // The asker has it while its holder looks for another; if there is none, the holder has it back.
         holders[place] = Some(asker);
-        let moved = search(table, holder, holders, asked);
-        if moved.got.is_some() {
-            let holders = moved.holders;
-            let asked = moved.asked;
-            return Answer {
-                got: wanted,
-                holders,
-                asked,
-            };
+        match search(table, holder, holders, asked) {
+            Ok(moved) => {
+                let holders = moved.holders;
+                return Ok(Gain { got, holders });
+            }
+            Err(more) => asked = more,
         }
         holders[place] = Some(holder);
-        asked = moved.asked;
         wanted = next_held(table, asker, place + 1, &holders, &asked);
     }
-    Answer {
-        got: None,
-        holders,
-        asked,
-    }
+    Err(asked)
 }

@@ -18,7 +18,7 @@ use Rattle.table.proofs.Same.{has_equation, has_unknown, told_unknown}
 use Rattle.pairing.specs.Holders.{holder}
 use Rattle.pairing.proofs.Sizes.{full_turned}
 use Rattle.pairing.proofs.Searching.{widen}
-use Rattle.pairing.proofs.Trying.{marks, owns, Asked, swapped_asks, swapped_tried, tried_held, tried_is}
+use Rattle.pairing.proofs.Trying.{marks, owns, Asked, swapped_asks, swapped_found, swapped_nothing, tried_held, tried_is}
 use Rattle.pairing.proofs.first.trial.Goals as goal
 use Rattle.pairing.proofs.first.trial.Goals.{After-up_to}
 
@@ -70,15 +70,22 @@ marks-up c =
     let number : equation_number c.args.e ≡ suc (equation_number c.args.e - 1) = omega arith in
     c.up_to.ensures ∙ ap marks number
 
-pub search-answer-requires : goal.search-answer-requires
-search-answer-requires c =
-    let p = (goal.at.search-answer-requires c).After-up_to in
+pub search-requires : goal.search-requires
+search-requires c =
+    let p = (goal.at.search-requires c).After-up_to in
     let n = number c.args.holders.now _ _ _ _ c.place.ensures (search rules) c.unwrap-holder.ensures in
     rw (marks-up p, c.place-3.ensures, ← c.requires.2.square) (rw n at (widen (swapped_asks (asked p))))
 
-pub returns : goal.returns
-returns c =
-    let p = (goal.at.returns c).After-up_to in
+pub returns-in-Ok : goal.returns-in-Ok
+returns-in-Ok c =
+    let p = (goal.at.returns-in-Ok c).After-up_to in
     let n = number c.args.holders.now _ _ _ _ c.place.ensures (search rules) c.unwrap-holder.ensures in
-    let s = (rw (marks-up p, c.place-3.ensures, ← c.requires.2.square) at c.search-answer.ensures) c.args.table.now.equations (rw n at (swapped_asks (asked p))) in
-    rw (c.then_some-2.ensures) (tried_is c.is_some.result (rw (c.is_some.ensures, ← told_unknown c.search-answer.result.got) (swapped_tried (asked p) {b = c.search-answer.result.asked} (rw n s))))
+    let s = (rw (marks-up p, c.place-3.ensures, ← c.requires.2.square) at c.in-Ok.ensures) c.args.table.now.equations (rw n at (swapped_asks (asked p))) in
+    swapped_found (asked p) (rw n s.0)
+
+pub returns-in-Err : goal.returns-in-Err
+returns-in-Err c =
+    let p = (goal.at.returns-in-Err c).After-up_to in
+    let n = number c.args.holders.now _ _ _ _ c.place.ensures (search rules) c.unwrap-holder.ensures in
+    let s = (rw (marks-up p, c.place-3.ensures, ← c.requires.2.square) at c.in-Err.ensures) c.args.table.now.equations (rw n at (swapped_asks (asked p))) in
+    swapped_nothing (asked p) (rw (← n) at s)

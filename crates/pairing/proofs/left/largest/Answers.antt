@@ -16,7 +16,7 @@ use Rattle.pairing.specs.Holders.{Asking}
 use Rattle.pairing.proofs.Searching.{widen}
 use Rattle.pairing.proofs.Pass.{pass_start, pass_asks, pass_found, pass_nothing}
 use Rattle.pairing.proofs.left.largest.Goals as goal
-use Rattle.pairing.proofs.left.largest.Goals.{After-at, then-is_some, else-is_some}
+use Rattle.pairing.proofs.left.largest.Goals.{After-at, in-Ok, in-Err}
 
 -- the next equation may search
 asking : (c : After-at) → Asking c.args.table.now.equations c.args.table.now.unknowns (occurs_at c.args.table.now.rows) (equation_number c.at.result - 1) c.loop-e.over c.loop-e.holders
@@ -29,18 +29,15 @@ loop-e-init c =
     let nobody : Option Equation = None in
     pass_start (replicate limit nobody) (replicate limit false) (λ u. ap (or_zero equation_number) (copies_at limit nobody u)) (λ e. copies_at limit false e)
 
-pub search-answer-requires : goal.search-answer-requires
-search-answer-requires c = widen (asking (goal.at.search-answer-requires c).After-at)
+pub search-requires : goal.search-requires
+search-requires c = widen (asking (goal.at.search-requires c).After-at)
 
 pub loop-e-preserved : goal.loop-e-preserved
 loop-e-preserved c =
     let r = c.loop-e.invariant in
     let s = asking (goal.at.loop-e-preserved c).After-at in
     let place : equation_number c.at.result - 1 ≡ c.loop-e.e = omega arith in
-    let x = c.search-answer.ensures c.args.table.now.equations s in
-    elim c.if-is_some.branch [
-      | then-is_some w ↦ rw (w.holders-is, w.over-is)
-          (pass_found r (rw place at (x.found (λ z. omega (arith, some_unknown c.search-answer.result.got (sym c.is_some.ensures ∙ w.if-is_some.true)))).0))
-      | else-is_some w ↦ rw (w.holders-is, w.over-is)
-          (pass_nothing r (rw place at s.asker) (rw place at s.free) (rw place at (x.nothing (none_unknown c.search-answer.result.got (sym c.is_some.ensures ∙ w.if-is_some.false))).1))
+    elim c.match-search.branch [
+      | in-Ok w ↦ rw (w.holders-is, w.over-is) (pass_found r (rw place at (w.in-Ok.ensures c.args.table.now.equations s).0))
+      | in-Err w ↦ rw (w.holders-is, w.over-is) (pass_nothing r (rw place at s.asker) (rw place at s.free) (rw place at (w.in-Err.ensures c.args.table.now.equations s)))
     ]

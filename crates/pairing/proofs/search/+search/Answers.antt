@@ -18,7 +18,7 @@ use Rattle.table.proofs.Same.{some_unknown, none_unknown}
 use Rattle.pairing.specs.Holders.{held}
 use Rattle.pairing.specs.Looking.{AllHeld}
 use Rattle.pairing.proofs.Give.{Given}
-use Rattle.pairing.proofs.Searching.{Wanted, wanted, giving, restored, takes, asks, moves, all_held, turn_next, ends, fewer, turn_asked, has_found, has_nothing}
+use Rattle.pairing.proofs.Searching.{Wanted, wanted, giving, restored, takes, asks, moves, all_held, turn_next, ends, fewer, turn_asked}
 use Rattle.pairing.proofs.search.+search.Goals as goal
 use Rattle.pairing.proofs.search.+search.Goals.{After-unwrap-holder}
 
@@ -30,8 +30,8 @@ one-more e = let p = e.0.ok in omega arith
 wants : (t : ℕ) (c : After-unwrap-holder t) → Wanted c.args.table.now.unknowns (occurs_at c.args.table.now.rows) (equation_number c.args.asker - 1) c.args.holders c.loop-wanted.asked c.place-place.result
 wants t c =
     let number = ap (or_zero unknown_number) c.in-Some-wanted.is in
-    let positive = c.in-Some-wanted.unknown.0.ok in
-    wanted (all_held c.requires (ap (or_zero unknown_number) c.in_default.is) c.free_unknown-free.ensures)
+    let positive = c.in-Some-wanted.got.0.ok in
+    wanted (all_held c.requires (ap (or_zero unknown_number) c.in_default.is) c.free_unknown.ensures)
     c.loop-wanted.invariant.1.next (λ z. omega arith) c.place-place.result (rw number c.place-place.ensures)
 
 here : (t : ℕ) (c : After-unwrap-holder t) → get_or c.args.holders c.place-place.result None ≡ Some c.unwrap-holder.result
@@ -65,61 +65,57 @@ back t c = rw (c.loop-wanted.invariant.0, ← here t c) (restored c.args.holders
 pub returns-in-Some : goal.returns-in-Some
 returns-in-Some t c =
     let u = c.place-in-Some.result in
-    let positive = c.in-Some.unknown.0.ok in
-    let found = c.free_unknown-free.ensures in
+    let positive = c.in-Some.got.0.ok in
+    let found = c.free_unknown.ensures in
     let number = ap (or_zero unknown_number) c.in-Some.is in
     let f = (rw number at found).hit (λ z. omega arith) in
-    let b : unknown_number c.in-Some.unknown - 1 < length c.args.holders = omega (arith, f.0, c.requires.unknowns) in
-    let g = giving c.args.holders (equation_number c.args.asker - 1) (unknown_number c.in-Some.unknown - 1) (Some c.args.asker) b (one-more c.args.asker) in
-    λ m s. rw c.place-in-Some.ensures (has_found (λ z. omega arith) (takes s f.0 f.1 f.2 g, g.here))
+    let b : unknown_number c.in-Some.got - 1 < length c.args.holders = omega (arith, f.0, c.requires.unknowns) in
+    let g = giving c.args.holders (equation_number c.args.asker - 1) (unknown_number c.in-Some.got - 1) (Some c.args.asker) b (one-more c.args.asker) in
+    λ m s. rw c.place-in-Some.ensures (takes s f.0 f.1 f.2 g, g.here)
 
 pub next_held-wanted-requires : goal.next_held-wanted-requires
 next_held-wanted-requires t c =
     let s = c.requires in
-    (omega arith, all_held s (ap (or_zero unknown_number) c.in_default.is) c.free_unknown-free.ensures)
+    (omega arith, all_held s (ap (or_zero unknown_number) c.in_default.is) c.free_unknown.ensures)
 
-pub search-moved-requires : goal.search-moved-requires
-search-moved-requires t c =
-    let p = (goal.at.search-moved-requires t c).After-unwrap-holder in
+pub search-requires : goal.search-requires
+search-requires t c =
+    let p = (goal.at.search-requires t c).After-unwrap-holder in
     let s = c.requires in
     let f = fewer c.args.asked (search rules) c.loop-wanted.invariant.2 s.asker s.fresh (rw c.place.ensures at c.loop-wanted.invariant.1) in
     rw c.loop-wanted.invariant.0 (omega arith, asks s (wants t p).occurs (by t p) (fresh t p) (given-at t p))
 
-pub returns-then-is_some : goal.returns-then-is_some
-returns-then-is_some t c =
-    let p = (goal.at.returns-then-is_some t c).After-unwrap-holder in
-    let positive = c.in-Some-wanted.unknown.0.ok in
-    λ m s. has_found (λ z. omega arith)
-    (rw (← c.place-place.ensures)
+pub returns-in-Ok : goal.returns-in-Ok
+returns-in-Ok t c =
+    let p = (goal.at.returns-in-Ok t c).After-unwrap-holder in
+    λ m s. rw (← c.place-place.ensures)
     (moves s (by t p) (fresh t p) (asked-at t p) (given-at t p)
-    (((rw c.loop-wanted.invariant.0 at c.search-moved.ensures) m (asks s (wants t p).occurs (by t p) (fresh t p) (given-at t p))).found (λ z. omega (arith, some_unknown c.search-moved.result.got (sym c.is_some.ensures ∙ c.if-is_some.true)))).0))
+    ((rw c.loop-wanted.invariant.0 at c.in-Ok.ensures) m (asks s (wants t p).occurs (by t p) (fresh t p) (given-at t p))).0)
 
 pub next_held-wanted-requires-in-Some-wanted : goal.next_held-wanted-requires-in-Some-wanted
 next_held-wanted-requires-in-Some-wanted t c =
     let p = (goal.at.next_held-wanted-requires-in-Some-wanted t c).After-unwrap-holder in
     let s = c.requires in
-    (omega arith, subst (AllHeld c.args.table.now.unknowns (occurs_at c.args.table.now.rows) (equation_number c.args.asker - 1)) (sym (back t p)) (all_held s (ap (or_zero unknown_number) c.in_default.is) c.free_unknown-free.ensures))
+    (omega arith, subst (AllHeld c.args.table.now.unknowns (occurs_at c.args.table.now.rows) (equation_number c.args.asker - 1)) (sym (back t p)) (all_held s (ap (or_zero unknown_number) c.in_default.is) c.free_unknown.ensures))
 
 pub loop-wanted-smaller : goal.loop-wanted-smaller
 loop-wanted-smaller t c =
     let p = (goal.at.loop-wanted-smaller t c).After-unwrap-holder in
-    let x = (rw c.loop-wanted.invariant.0 at c.search-moved.ensures) limit (asks c.requires (wants t p).occurs (by t p) (fresh t p) (given-at t p)) in
-    let r = (x.nothing (none_unknown c.search-moved.result.got (sym c.is_some.ensures ∙ c.if-is_some.false))).1 in
-    falses_fall c.loop-wanted.asked c.search-moved.result.asked (c.loop-wanted.invariant.2 ∙ sym (search rules)) r.more (equation_number c.unwrap-holder.result - 1) (fresh t p) r.self
+    let r = (rw c.loop-wanted.invariant.0 at c.in-Err.ensures) limit (asks c.requires (wants t p).occurs (by t p) (fresh t p) (given-at t p)) in
+    falses_fall c.loop-wanted.asked c.in-Err.more (c.loop-wanted.invariant.2 ∙ sym (search rules)) r.more (equation_number c.unwrap-holder.result - 1) (fresh t p) r.self
 
 pub loop-wanted-preserved : goal.loop-wanted-preserved
 loop-wanted-preserved t c =
     let p = (goal.at.loop-wanted-preserved t c).After-unwrap-holder in
-    let x = (rw c.loop-wanted.invariant.0 at c.search-moved.ensures) limit (asks c.requires (wants t p).occurs (by t p) (fresh t p) (given-at t p)) in
-    let r = (x.nothing (none_unknown c.search-moved.result.got (sym c.is_some.ensures ∙ c.if-is_some.false))).1 in
+    let r = (rw c.loop-wanted.invariant.0 at c.in-Err.ensures) limit (asks c.requires (wants t p).occurs (by t p) (fresh t p) (given-at t p)) in
     let next = rw (back t p, add-one c.place-place.result) at c.next_held-wanted-in-Some-wanted.ensures in
     let number = ap (or_zero unknown_number) c.in-Some-wanted.is in
-    let positive = c.in-Some-wanted.unknown.0.ok in
+    let positive = c.in-Some-wanted.got.0.ok in
     (back t p, turn_next (number ∙ (omega arith)) c.loop-wanted.invariant.1 (wants t p).occurs (by t p) (given-at t p) r next, search rules)
 
 pub returns : goal.returns
 returns t c =
     let n : length c.args.asked ≡ limit = search rules in
     let none = ap (or_zero unknown_number) c.in_default-wanted.is in
-    let held = all_held c.requires (ap (or_zero unknown_number) c.in_default.is) c.free_unknown-free.ensures in
-    λ m s. has_nothing refl c.loop-wanted.invariant.0 (ends (rw n c.requires.asker) none held (rw c.place.ensures at c.loop-wanted.invariant.1))
+    let held = all_held c.requires (ap (or_zero unknown_number) c.in_default.is) c.free_unknown.ensures in
+    λ m s. ends (rw n c.requires.asker) none held (rw c.place.ensures at c.loop-wanted.invariant.1)
