@@ -5,6 +5,7 @@ use Rattle.laws.specs.Tab.{tab, pick, number_at}
 use Rattle.table.specs.Model.{limit, top_code, Bounded, occurs_at, order_at, square}
 use Rattle.std.specs.declared.option.Option.{Option}
 use Rattle.table.specs.declared.number.Equation.{Equation}
+use Rattle.table.specs.declared.rows.Table.{Table}
 use Rattle.pairing.specs.Pairing.{Rel, Full}
 use Rattle.pairing.specs.Holders.{held}
 use Rattle.counts.specs.Fit.{Least, high, leading}
@@ -38,6 +39,11 @@ pub record Pairable (n : ℕ) (t : List (List ℕ)) : Type 0 where
   pub bounded : Bounded n n t
   pub pairs : Rel
   pub full : Full n n (occurs_at t) pairs
+
+-- a square table that is pairable
+pub record PairableTable (t : Table) : Type 0 where
+  pub square : t.equations ≡ t.unknowns
+  pub pairable : Pairable t.equations t.rows
 
 -- the answer: the least counts, their tops, and a pairing of all equations over the leading occurrences; 0 beyond the last equation and unknown
 pub record Chosen (n : ℕ) (t : List (List ℕ)) (counts tops : List ℕ) (holders : List (Option Equation)) : Type 0 where

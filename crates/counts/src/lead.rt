@@ -26,7 +26,7 @@ fn lead_row(table: &Table, e: Equation, counts: &Row, tops: &Row) -> Row
     )
 }
 
-// The table of leading occurrences, for the crates that look at those alone.
+// The table of leading occurrences, for the crates that look at those alone; in a square table of all of them.
 pub fn leading(table: &Table, counts: &Row, tops: &Row) -> Table
     requires { Small table.now.equations table.now.rows counts.now }
     ensures { (result.equations ≡ table.now.equations) × (result.unknowns ≡ table.now.unknowns)

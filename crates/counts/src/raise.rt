@@ -3,7 +3,7 @@
 ghost use Rattle.std.specs.Prelude.{◌≡◌, MatchResult, ℕ, ◌+◌, ◌*◌, ◌<◌, ◌≤◌};
 ghost use Rattle.table.specs.Model.{limit, occurs_at};
 ghost use Rattle.pairing.specs.Holders.{held};
-ghost use Rattle.counts.specs.Work.{top_order, Pairable, Chosen};
+ghost use Rattle.counts.specs.Work.{top_order, PairableTable, Chosen};
 ghost use Rattle.laws.specs.Tab.{number_at};
 ghost use Rattle.counts.specs.Kept.{Paired, Went, raised_by};
 
@@ -49,24 +49,24 @@ fn pair_on(leading: &Table, from: usize, holders: Holders) -> Result<Holders, St
 {
     let mut holders = holders;
     for paired in from..leading.equations {
-        let answer = search(leading, Equation::at(paired), holders, [false; LIMIT]);
-        if answer.got.is_none() {
-            let asked = answer.asked;
-            return Err(Stopped {
-                paired,
-                holders,
-                asked,
-            });
+        match search(leading, Equation::at(paired), holders, [false; LIMIT]) {
+            Ok(gain) => holders = gain.holders,
+            Err(asked) => {
+                return Err(Stopped {
+                    paired,
+                    holders,
+                    asked,
+                });
+            }
         }
-        holders = answer.holders;
     }
     Ok(holders)
 }
 
-// The answer of document 01 for a solvable model of n equations: the fit choice whose every count is no larger than in any other fit choice.
+// The answer of document 01 for a solvable model: the fit choice whose every count is no larger than in any other fit choice.
 // Each raise brings the tops' sum nearer to the counts' sum, and it never falls below that.
 pub fn least(table: &Table) -> Choice
-    requires { (table.now.equations ≡ table.now.unknowns) × Pairable table.now.equations table.now.rows }
+    requires { PairableTable table.now }
     ensures { Chosen table.now.equations table.now.rows result.counts result.tops result.holders }
 {
     let mut counts = [0; LIMIT];

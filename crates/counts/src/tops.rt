@@ -31,7 +31,7 @@ fn top(table: &Table, u: Unknown, counts: &Row) -> u8
     most
 }
 
-// The tops of all unknowns, and 0 beyond the last.
+// The tops of as many unknowns as there are equations, which in a square table are all, and 0 beyond.
 pub fn tops(table: &Table, counts: &Row) -> Row
     requires { Small table.now.equations table.now.rows counts.now }
     ensures { result ≡ tops_of table.now.equations table.now.rows counts.now }

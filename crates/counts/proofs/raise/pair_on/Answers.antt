@@ -11,26 +11,20 @@ use Rattle.pairing.specs.Holders.{Searched}
 use Rattle.pairing.proofs.Searching.{widen}
 use Rattle.counts.proofs.Pairs.{may_search, paired_next, went_some}
 use Rattle.counts.proofs.raise.pair_on.Goals as goal
-use Rattle.counts.proofs.raise.pair_on.Goals.{After-search-answer}
 
-pub search-answer-requires : goal.search-answer-requires
-search-answer-requires c =
+pub search-requires : goal.search-requires
+search-requires c =
     let place : equation_number c.at.result - 1 ≡ c.loop-paired.paired = omega arith in
     rw (place, ← c.requires.0) (widen (may_search c.loop-paired.invariant c.args.leading.now.few.0 (omega arith)))
 
--- what the search of the equation at this place handed back
-answered : (c : After-search-answer) → Searched c.args.leading.now.equations c.args.leading.now.equations (occurs_at c.args.leading.now.rows) c.loop-paired.paired (replicate limit false) c.loop-paired.holders
-    (or_zero unknown_number c.search-answer.result.got) c.search-answer.result.holders c.search-answer.result.asked
-answered c =
+pub returns-in-Err : goal.returns-in-Err
+returns-in-Err c =
     let place : equation_number c.at.result - 1 ≡ c.loop-paired.paired = omega arith in
-    (rw (place, ← c.requires.0) at c.search-answer.ensures) c.args.leading.now.equations (may_search c.loop-paired.invariant c.args.leading.now.few.0 (omega arith))
-
-pub returns-then-is_none : goal.returns-then-is_none
-returns-then-is_none c =
-    let a = answered (goal.at.returns-then-is_none c).After-search-answer in
-    (omega arith, went_some c.loop-paired.invariant (omega arith) (a.nothing (none_unknown c.search-answer.result.got c.if-is_none.ensures)).1)
+    let a = (rw (place, ← c.requires.0) at c.in-Err.ensures) c.args.leading.now.equations (may_search c.loop-paired.invariant c.args.leading.now.few.0 (omega arith)) in
+    (omega arith, went_some c.loop-paired.invariant (omega arith) a)
 
 pub loop-paired-preserved : goal.loop-paired-preserved
 loop-paired-preserved c =
-    let a = answered (goal.at.loop-paired-preserved c).After-search-answer in
-    paired_next c.loop-paired.invariant (a.found (λ z. omega (arith, some_unknown c.search-answer.result.got c.if-is_none.ensures))).0
+    let place : equation_number c.at.result - 1 ≡ c.loop-paired.paired = omega arith in
+    let a = (rw (place, ← c.requires.0) at c.in-Ok.ensures) c.args.leading.now.equations (may_search c.loop-paired.invariant c.args.leading.now.few.0 (omega arith)) in
+    paired_next c.loop-paired.invariant a.0
