@@ -2,7 +2,7 @@
 ghost use Rattle.std.specs.Prelude.{◌≡◌, ◌++◌, map, ◌≤◌, length, take, drop};
 ghost use Rattle.table.specs.Model.{limit, occurs_at, order_at};
 ghost use Rattle.table.specs.Number.{equation_number, unknown_number, or_zero};
-ghost use Rattle.counts.specs.Work.{Pairable};
+ghost use Rattle.counts.specs.Work.{PairableTable};
 ghost use Rattle.analysis.specs.Outcome.{strips, answer_bytes, Solved};
 ghost use Rattle.analysis.specs.Written.{SolutionIs};
 
@@ -31,10 +31,10 @@ pub struct Solution {
     pub blocks: u8,
 }
 
-// What is to be said of a model of n equations that all have a pair.
+// What is to be said of a square model whose equations can all be paired.
 #[tactic(auto, using(counts::proofs::Chosen::chosen_small, counts::proofs::Chosen::chosen_full, counts::proofs::Chosen::freedom_asks, blocks::proofs::FirstPartners::first_partnered))]
 fn solve(table: &Table) -> Solution
-    requires { (table.now.equations ≡ table.now.unknowns) × Pairable table.now.equations table.now.rows }
+    requires { PairableTable table.now }
     ensures { SolutionIs table.now.equations table.now.rows result }
 {
     let Choice {
@@ -80,7 +80,7 @@ fn write(answer: &mut [u8], n: usize, solution: &Solution)
 
 // The number and the strips of a solvable model.
 pub fn solvable(table: &Table, answer: &mut [u8]) -> u64
-    requires { (table.now.equations ≡ table.now.unknowns) × Pairable table.now.equations table.now.rows × (answer_bytes ≤ length answer.old) }
+    requires { PairableTable table.now × (answer_bytes ≤ length answer.old) }
     ensures { Solved table.now.equations (occurs_at table.now.rows) (order_at table.now.rows) table.now.equations answer.old result answer.new }
 {
     let solution = solve(table);

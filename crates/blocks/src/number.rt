@@ -1,5 +1,5 @@
 // The blocks get their numbers one by one: of those that are ready, the one with the lowest equation number in it.
-ghost use Rattle.std.specs.Prelude.{◌≡◌, ◌<◌, ◌≤◌};
+ghost use Rattle.std.specs.Prelude.{◌≡◌, ◌<◌};
 ghost use Rattle.std.specs.List.{list_any, range_with_len};
 ghost use Rattle.laws.specs.Tab.{tab, number_at};
 ghost use Rattle.table.specs.Model.{limit, occurs_at};

@@ -1,8 +1,8 @@
 // What each equation reaches through needs: ways through equation 1, then through 1 and 2, and so on.
-ghost use Rattle.std.specs.Prelude.{◌≡◌, ◌<◌, ◌≤◌, eqb, get_or};
+ghost use Rattle.std.specs.Prelude.{◌≡◌, ◌<◌, eqb, get_or};
 ghost use Rattle.laws.specs.Count.{bit};
 ghost use Rattle.laws.specs.Tab.{tab, pick};
-ghost use Rattle.table.specs.Model.{limit, code_at, occurs_at, square};
+ghost use Rattle.table.specs.Model.{limit, occurs_at, square};
 ghost use Rattle.blocks.specs.Handed.{Bits, ReachTable, Within};
 ghost use Rattle.blocks.specs.Steps.{at_once, either, through_code};
 
@@ -31,18 +31,22 @@ fn either_of(code: u8, other: u8) -> u8
 }
 
 // What one of two equations reaches.
-fn joined(row: Row, other: Row) -> Row
-    ensures { result ≡ tab limit (λ g. either (get_or row g 0) (get_or other g 0)) }
+fn joined(row: &Row, other: &Row) -> Row
+    ensures { result ≡ tab limit (λ g. either (get_or row.now g 0) (get_or other.now g 0)) }
 {
     tabulated(LIMIT, 0, |g| either_of(row[g], other[g]))
 }
 
 // What an equation reaches besides if the way may lead through the equation at place k, whose row is the second.
-fn row_through(row: Row, other: Row, k: usize) -> Row
+fn row_through(row: &Row, other: &Row, k: usize) -> Row
     requires { k < limit }
-    ensures { result ≡ tab limit (λ g. pick (eqb (get_or row k 0) 0) (get_or row g 0) (either (get_or row g 0) (get_or other g 0))) }
+    ensures { result ≡ tab limit (λ g. pick (eqb (get_or row.now k 0) 0) (get_or row.now g 0) (either (get_or row.now g 0) (get_or other.now g 0))) }
 {
-    if row[k] == 0 { row } else { joined(row, other) }
+    if row[k] == 0 {
+        *row
+    } else {
+        joined(row, other)
+    }
 }
 
 // The same for every equation.
@@ -56,7 +60,7 @@ fn through(reach: &Rows, k: usize) -> Rows
         |e|
             requires { (e < limit) × (k < limit) }
             ensures { result ≡ tab limit (through_code reach.entry.now k e) }
-        { row_through(reach[e], reach[k], k) },
+        { row_through(&reach[e], &reach[k], k) },
     )
 }
 

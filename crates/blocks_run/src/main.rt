@@ -3,9 +3,9 @@
 // independent computation.
 #![tactic(auto)]
 
-ghost use Rattle.std.specs.Prelude.{◌≡◌, ◌≤◌, ◌<◌, length};
+ghost use Rattle.std.specs.Prelude.{◌≤◌, ◌<◌, length};
 ghost use Rattle.table.specs.Model.{limit};
-ghost use Rattle.counts.specs.Work.{Pairable};
+ghost use Rattle.counts.specs.Work.{PairableTable};
 
 use blocks::place::{Placing, solve_order};
 use counts::lead::leading;
@@ -48,7 +48,7 @@ fn print_blocks<W: Write>(out: &mut W, placing: Placing, n: usize) -> io::Result
 // A solvable model.
 #[tactic(auto, using(counts::proofs::Chosen::chosen_small, counts::proofs::Chosen::chosen_full, blocks::proofs::FirstPartners::first_partnered))]
 fn print_answer<W: Write>(out: &mut W, table: &Table) -> io::Result<()>
-    requires { (table.now.equations ≡ table.now.unknowns) × Pairable table.now.equations table.now.rows }
+    requires { PairableTable table.now }
 {
     let n = table.equations;
     let Choice {

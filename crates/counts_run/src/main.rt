@@ -2,9 +2,7 @@
 // or the rank of a model that is singular. `stdout` has what must come out, from document 01 and an independent computation.
 #![tactic(auto)]
 
-ghost use Rattle.std.specs.Prelude.{◌≡◌, ◌≤◌};
-ghost use Rattle.table.specs.Model.{limit};
-ghost use Rattle.counts.specs.Work.{Pairable};
+ghost use Rattle.counts.specs.Work.{PairableTable};
 
 use counts::figures::{freedom, index};
 use counts::lead::leading;
@@ -29,7 +27,7 @@ fn print_rows<W: Write>(out: &mut W, table: &Table) -> io::Result<()> {
 // A solvable model.
 #[tactic(auto, using(counts::proofs::Chosen::chosen_small, counts::proofs::Chosen::freedom_asks))]
 fn print_answer<W: Write>(out: &mut W, table: &Table) -> io::Result<()>
-    requires { (table.now.equations ≡ table.now.unknowns) × Pairable table.now.equations table.now.rows }
+    requires { PairableTable table.now }
 {
     let n = table.equations;
     let Choice { counts, tops, .. } = least(table);

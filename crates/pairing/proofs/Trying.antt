@@ -2,14 +2,14 @@
 -- The equation gives up what it holds and asks the unknown's holder to move on, those up to it being asked already. If the holder finds another, that is a full
 -- pairing; if not, no full pairing keeps what those before hold and gives the unknown to the equation (Hall).
 use mathlib.Core.Path.{◌≡◌, refl, sym, ap, ◌∙◌}
-use mathlib.Core.Bool.{Bool, true, false, not}
+use mathlib.Core.Bool.{Bool, true, false}
 use mathlib.Core.List.{List}
 use Prim.Native.Nat.{ℕ, suc, ◌-◌, ◌<◌, ◌≤◌}
 use native.Mathlib.Omega.{arith}
 use lib.Dec.{eqb, ltb}
 use lib.ListN.{length, set, length-set}
 use lib.Seq.{get_or-set_same, get_or-set_other}
-use borrow.Author.Tests.{eqb-true, eqb-false, eq-eqb, lt-ltb, ltb-true, not-false}
+use borrow.Author.Tests.{eqb-true, eqb-false, eq-eqb, lt-ltb, ltb-true}
 use Rattle.laws.specs.Marks.{marked}
 use Rattle.laws.specs.Tab.{tab}
 use Rattle.laws.proofs.Tests.{test, tests, given, clash, true≢false, not_true}

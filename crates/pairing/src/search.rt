@@ -1,6 +1,6 @@
 // The search that enlarges a pairing (002, MATCH-EQUATION): an equation takes a free unknown, or asks the holder of a
 // taken one to move on, and that one asks in turn. Each equation is asked at most once, so the asking ends.
-ghost use Rattle.std.specs.Prelude.{◌≡◌, ℕ, ◌-◌, ◌≤◌, set};
+ghost use Rattle.std.specs.Prelude.{ℕ, ◌-◌, ◌≤◌};
 ghost use Rattle.table.specs.Model.{limit, occurs_at};
 ghost use Rattle.table.specs.Number.{equation_number, unknown_number, or_zero};
 ghost use Rattle.pairing.specs.Holders.{Asking, Searched};
@@ -53,12 +53,7 @@ fn next_held(
 
 // One search. It calls itself on the present holder of an unknown that it needs; what falls is the number of those not yet asked.
 // Where it finds nothing it hands back who was asked, those asked before included.
-pub fn search(
-    table: &Table,
-    asker: Equation,
-    holders: Holders,
-    asked: Marks,
-) -> Result<Gain, Marks>
+pub fn search(table: &Table, asker: Equation, holders: Holders, asked: Marks) -> Result<Gain, Marks>
     requires { Asking limit table.now.unknowns (occurs_at table.now.rows) (equation_number asker - 1) asked holders }
     ensures { (m : ℕ) → Asking m table.now.unknowns (occurs_at table.now.rows) (equation_number asker - 1) asked holders
         → Searched m table.now.unknowns (occurs_at table.now.rows) (equation_number asker - 1) asked holders result }

@@ -8,7 +8,7 @@ use Rattle.analysis.proofs.verdict.verdict.Goals as goal
 pub solvable-requires : goal.solvable-requires
 solvable-requires c =
     let all = sym c.all_paired.ensures ∙ c.if-all_paired.true in
-    (paired_square _ _ _ all, all_pairable c.requires.0 c.left_over-rank.ensures all, c.requires.1)
+    (record { square = paired_square _ _ _ all; pairable = all_pairable c.requires.0 c.left_over-rank.ensures all }, c.requires.1)
 
 pub returns-then-all_paired : goal.returns-then-all_paired
 returns-then-all_paired c =

@@ -10,5 +10,5 @@ use Rattle.blocks.proofs.reach.joined.Goals as goal
 
 pub returns : goal.returns
 returns c =
-    let one : ℕ → ℕ = λ g. either (get_or c.args.row g 0) (get_or c.args.other g 0) in
+    let one : ℕ → ℕ = λ g. either (get_or c.args.row.now g 0) (get_or c.args.other.now g 0) in
     c.tabulated.ensures one (λ i x h p. search rules) ∙ whole_tab limit one 0

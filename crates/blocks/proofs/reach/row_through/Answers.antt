@@ -9,5 +9,5 @@ use Rattle.blocks.proofs.reach.row_through.Goals as goal
 pub returns-then-row-k-eq0 : goal.returns-then-row-k-eq0
 returns-then-row-k-eq0 c =
     let a = c.args in
-    let all : length a.row ≡ limit = search rules in
-    row_left a.row a.other a.k all c.if-row-k-eq0.true
+    let all : length a.row.now ≡ limit = search rules in
+    row_left a.row.now a.other.now a.k all c.if-row-k-eq0.true

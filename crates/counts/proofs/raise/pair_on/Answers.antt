@@ -1,13 +1,8 @@
 -- `raise::pair_on`: one search after the other, by the laws of proofs/Pairs.
 use mathlib.Core.Path.{◌≡◌}
-use mathlib.Core.Bool.{false}
 use Prim.Native.Nat.{◌-◌}
 use native.Mathlib.Omega.{arith}
-use lib.ListN.{replicate}
-use Rattle.table.specs.Model.{limit, occurs_at}
-use Rattle.table.specs.Number.{equation_number, unknown_number, or_zero}
-use Rattle.table.proofs.Same.{some_unknown, none_unknown}
-use Rattle.pairing.specs.Holders.{Searched}
+use Rattle.table.specs.Number.{equation_number}
 use Rattle.pairing.proofs.Searching.{widen}
 use Rattle.counts.proofs.Pairs.{may_search, paired_next, went_some}
 use Rattle.counts.proofs.raise.pair_on.Goals as goal

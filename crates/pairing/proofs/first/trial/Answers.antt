@@ -14,7 +14,7 @@ use Rattle.laws.proofs.Tests.{given}
 use Rattle.table.specs.Model.{occurs_at}
 use Rattle.table.specs.Number.{equation_number, unknown_number, or_zero}
 use Rattle.table.specs.declared.number.Equation.{Equation}
-use Rattle.table.proofs.Same.{has_equation, has_unknown, told_unknown}
+use Rattle.table.proofs.Same.{has_equation, has_unknown}
 use Rattle.pairing.specs.Holders.{holder}
 use Rattle.pairing.proofs.Sizes.{full_turned}
 use Rattle.pairing.proofs.Searching.{widen}

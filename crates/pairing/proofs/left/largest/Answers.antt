@@ -1,5 +1,5 @@
 -- `left::largest`: one search for each equation, by the laws of proofs/Pass.
-use mathlib.Core.Path.{◌≡◌, sym, ap, ◌∙◌}
+use mathlib.Core.Path.{◌≡◌, ap}
 use mathlib.Core.Bool.{false}
 use Prim.Native.Nat.{◌-◌}
 use native.Mathlib.Omega.{arith}
@@ -11,7 +11,6 @@ use Rattle.laws.proofs.Tab.{copies_at}
 use Rattle.table.specs.Model.{limit, occurs_at}
 use Rattle.table.specs.Number.{equation_number, or_zero}
 use Rattle.table.specs.declared.number.Equation.{Equation}
-use Rattle.table.proofs.Same.{some_unknown, none_unknown}
 use Rattle.pairing.specs.Holders.{Asking}
 use Rattle.pairing.proofs.Searching.{widen}
 use Rattle.pairing.proofs.Pass.{pass_start, pass_asks, pass_found, pass_nothing}

@@ -1,6 +1,6 @@
 -- `search::search`: the first pass finds a free unknown; the second asks the holders in turn. What falls is the number of those not asked.
 -- The steps are the laws of proofs/Searching: takes, asks, moves, turn_start, turn_next, ends.
-use mathlib.Core.Path.{◌≡◌, refl, sym, ap, subst, ◌∙◌}
+use mathlib.Core.Path.{◌≡◌, sym, ap, subst, ◌∙◌}
 use mathlib.Core.Bool.{true, false}
 use Prim.Native.Nat.{ℕ, suc, ◌-◌, ◌<◌}
 use native.Mathlib.Numerals.{add-one}
@@ -14,7 +14,6 @@ use Rattle.laws.proofs.Marks.{falses_fall}
 use Rattle.table.specs.Model.{limit, occurs_at}
 use Rattle.table.specs.Number.{equation_number, unknown_number, or_zero}
 use Rattle.table.specs.declared.number.Equation.{Equation}
-use Rattle.table.proofs.Same.{some_unknown, none_unknown}
 use Rattle.pairing.specs.Holders.{held}
 use Rattle.pairing.specs.Looking.{AllHeld}
 use Rattle.pairing.proofs.Give.{Given}
