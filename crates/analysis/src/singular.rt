@@ -9,6 +9,7 @@ use crate::strip::{listed, unused};
 use table::LIMIT;
 
 // The surplus equations, the unfixed unknowns, and three strips with nothing in them.
+// Kept (point 5): the bounds are on the lengths of two slices, which E and U of the table give; whole arrays with E and U beside would be more to hand in.
 pub fn write(answer: &mut [u8], surplus: &[bool], unfixed: &[bool])
     requires { (answer_bytes ≤ length answer.old) × (length surplus.now ≤ limit) × (length unfixed.now ≤ limit) }
     ensures { answer.new ≡ strips (map suc (members (length surplus.now) (marked surplus.now))) (map suc (members (length unfixed.now) (marked unfixed.now))) [] [] []

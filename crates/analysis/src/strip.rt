@@ -1,6 +1,4 @@
 // The writers of the strips. Each is lent its own stretch of the answer buffer and fills it wholly: what it has, and then unused places.
-// Kept (point 5): that a stretch has 32 bytes stands in three contracts; it is a part of the caller's buffer (document 01), and `[u8; LIMIT]` would ask more
-// of those who call `unused`, `numbers` and `listed` (docs/PROMISES.md).
 ghost use Rattle.std.specs.Prelude.{◌≡◌, [], map, suc, ◌≤◌, length};
 ghost use Rattle.laws.specs.Marks.{marked};
 ghost use Rattle.table.specs.Model.{limit};
@@ -16,6 +14,8 @@ pub const UNUSED: u8 = 255;
 pub const ANSWER: usize = 5 * LIMIT;
 
 // A strip with nothing in it.
+// Kept (point 5): that a stretch has 32 bytes stands in three contracts; it is a part of the caller's buffer (document 01), and `[u8; LIMIT]` would ask more
+// of those who call `unused`, `numbers` and `listed` (docs/PROMISES.md).
 #[tactic(auto, using(crate::proofs::Strips::strip_none))]
 pub fn unused(stretch: &mut [u8])
     requires { length stretch.old ≡ limit }

@@ -1,4 +1,4 @@
-// A relation between equations, as rows of codes: 1 where the row's equation stands in it to the column's, 0 elsewhere.
+// A relation between equations, as rows of codes: 0 where the row's equation does not stand in it to the column's.
 ghost use Rattle.std.specs.Prelude.{◌≤◌};
 ghost use Rattle.table.specs.Model.{limit};
 

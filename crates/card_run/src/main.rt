@@ -167,7 +167,8 @@ fn refusals<W: Write>(out: &mut W) -> io::Result<()> {
 }
 
 // Reads until the buffer is full or the input ends, and returns how many bytes it put there.
-// Kept (point 2): `fill` of `mudorder` reads the same way, but no crate can call a program's function, and the program relies on no crate of the gate.
+// Kept (point 2): `fill` of `mudorder` reads the same way. One function for both is no plainer: no crate can call a program's function, so it would be a
+// crate of its own for a loop of six lines, or the delivered program would rely on a crate of the gate.
 // Kept (point 3): `read_exact` says nothing of an input that ends before the buffer is full, and `read_to_end` needs a `Vec`.
 fn read_full<R: Read>(reader: &mut R, buffer: &mut [u8]) -> io::Result<usize>
     ensures { IfOk result (λ n. n ≤ length buffer.new) }

@@ -27,6 +27,7 @@ pub fn index(n: usize, counts: &Row) -> u8
 }
 
 // The sum of the numbers.
+// Kept (point 5): the bound is on a slice's length, which the caller's n gives; no value has it beside it.
 fn total(numbers: &[u8]) -> usize
     requires { length numbers.now ≤ limit }
     ensures { result ≡ sum_by (λ x. x) numbers.now }

@@ -33,6 +33,7 @@ pub struct Choice {
 }
 
 // One more for each that was asked.
+// Kept (point 5): `n ≤ limit` stays a clause; a whole table would be handed in for that number.
 fn raised(n: usize, counts: &Row, asked: &Marks) -> Row
     requires { (n ≤ limit) × ((e : ℕ) → e < n → number_at counts.now e ≤ limit * top_order) }
     ensures { result ≡ raised_by n counts.now asked.now }

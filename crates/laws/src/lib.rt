@@ -1,4 +1,4 @@
-// Laws of sums, counts, tables, lists and texts; nothing of models.
+// Laws of sums, counts, tables, lists and texts, and arrays made by a function of the place; nothing of models.
 #![tactic(auto)]
 
 pub mod array;

@@ -16,6 +16,7 @@ use table::rows::Table;
 use table::{CELLS, LIMIT};
 
 // The numbers of what is marked, by commas, or none.
+// Kept (point 5): the bound is on a slice's length; no value has it beside it.
 fn print_marked<W: Write>(out: &mut W, label: &[u8], marks: &[bool]) -> io::Result<()>
     requires { length marks.now ≤ limit }
 {

@@ -1,5 +1,4 @@
 // Equation numbers and unknown numbers count separately, each from 1, and one is never used for the other.
-// Kept (point 2): two types that differ in their names alone, for document 01 asks for a tuple struct each; all that they share is in the trait `Counted`.
 ghost use Rattle.std.specs.Prelude.{◌≡◌, get_or, map, ℕ, ◌+◌, ◌-◌, ◌<◌};
 ghost use Rattle.std.specs.Int.NonZero.{non_zero_u8_get};
 ghost use Rattle.table.specs.Model.{limit};
@@ -11,6 +10,7 @@ use std::num::NonZeroU8;
 
 // Kept (point 5): that a number is at most the limit stays a clause of those who index by it, for `place`, `or_zero` and `numbers` take any number, and a
 // narrower type would ask more of their callers.
+// Kept (point 2): two types that differ in their names alone, for document 01 asks for a tuple struct each; all that they share is in the trait `Counted`.
 #[derive(Clone, Copy, PartialEq, Eq, PartialOrd, Ord)]
 pub struct Equation(pub NonZeroU8);
 

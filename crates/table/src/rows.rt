@@ -8,7 +8,7 @@ use crate::number::{Counted, Equation, Unknown};
 use crate::{LIMIT, Row, Rows};
 use laws::array::tabulated;
 
-// E equations and U unknowns, and what occurs where: codes, and 0 beyond the last equation and unknown.
+// E equations and U unknowns, and what occurs where, as codes. Those that are made here have 0 beyond the last equation and unknown.
 #[derive(Drop)]
 pub struct Table {
     pub equations: usize,
@@ -18,6 +18,7 @@ pub struct Table {
 }
 
 // One row: byte e × U + u of the lent table at place u, and 0 beyond the last unknown.
+// Kept (point 5): `unknowns ≤ limit` stays a clause, for there is no `Table` yet that could say it: its rows are made here.
 fn lent_row(unknowns: usize, table: &[u8], at: usize) -> Row
     requires { (unknowns ≤ limit) × (at + unknowns ≤ length table.now) }
     ensures { result ≡ tab limit (λ u. pick (ltb u unknowns) (get_or table.now (at + u) 0) 0) }
