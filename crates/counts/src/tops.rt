@@ -7,7 +7,7 @@ ghost use Rattle.counts.specs.Work.{top_order, Small, high_at, tops_of};
 
 use laws::array::tabulated;
 use table::Row;
-use table::number::{Counted, Equation, Unknown};
+use table::number::{Counted, Unknown};
 use table::rows::Table;
 
 // Order + count at an occurrence, and none where the unknown does not occur: code 0 is no order at all.
@@ -18,14 +18,14 @@ pub(crate) fn lifted(code: u8, count: u8) -> Option<u8>
     code.checked_sub(1).map(|order| order + count)
 }
 
-// The largest order + count over the occurrences of one unknown.
+// The largest order + count over the occurrences of one unknown, looked up by place, for most of the raising's time goes here.
 fn top(table: &Table, u: Unknown, counts: &Row) -> u8
     requires { Small table.now.equations table.now.rows counts.now × (unknown_number u ≤ table.now.equations) }
     ensures { result ≡ high_at table.now.equations table.now.rows counts.now (unknown_number u - 1) }
 {
     let mut most = 0;
     for e in 0..table.equations {
-        let here = lifted(table.code(Equation::at(e), u), counts[e]);
+        let here = lifted(table.rows[e][u.place()], counts[e]);
         most = here.unwrap_or(0).max(most);
     }
     most

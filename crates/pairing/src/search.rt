@@ -17,15 +17,14 @@ pub struct Gain {
     pub holders: Holders,
 }
 
-// The lowest unknown of the asker that nobody holds.
+// The lowest unknown of the asker that nobody holds. Looked up by place, here and in `next_held`: to make each unknown's number first would take longer than the look.
 fn free_unknown(table: &Table, asker: Equation, holders: &Holders) -> Option<Unknown>
     requires { equation_number asker ≤ limit }
     ensures { FreeIn table.now.unknowns (occurs_at table.now.rows) (equation_number asker - 1) holders.now (or_zero unknown_number result) }
 {
     for u in 0..table.unknowns {
-        let unknown = Unknown::at(u);
-        if table.occurs(asker, unknown) && holders[u].is_none() {
-            return Some(unknown);
+        if table.rows[asker.place()][u] != 0 && holders[u].is_none() {
+            return Some(Unknown::at(u));
         }
     }
     None
@@ -43,9 +42,8 @@ fn next_held(
     ensures { NextIn table.now.unknowns (occurs_at table.now.rows) (equation_number asker - 1) from holders.now asked.now (or_zero unknown_number result) }
 {
     for u in from..table.unknowns {
-        let unknown = Unknown::at(u);
-        if table.occurs(asker, unknown) && !asked[holders[u].unwrap().place()] {
-            return Some(unknown);
+        if table.rows[asker.place()][u] != 0 && !asked[holders[u].unwrap().place()] {
+            return Some(Unknown::at(u));
         }
     }
     None
