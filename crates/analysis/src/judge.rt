@@ -33,6 +33,7 @@ impl Refusal {
     }
 
     // The place that goes with it.
+    // Kept (point 1): 0 with the refusals that have none, for document 01 hands out 0 there.
     pub fn place(self) -> usize
         ensures { result ≡ place_of self }
     {

@@ -8,6 +8,7 @@ ghost use Rattle.analysis.specs.Outcome.{strip};
 use table::LIMIT;
 
 // What an unused place of a strip holds.
+// Kept (point 1): a number for none, for document 01 fills the strips so.
 pub const UNUSED: u8 = 255;
 
 // The bytes of an answer: five strips.

@@ -38,6 +38,8 @@ fn need_row(leading: &Table, partners: [Option<Unknown>; LIMIT], f: usize) -> Ro
 }
 
 // Which equation needs which.
+// Kept (point 5): leading occurrences and partners go together, with `Partnered`, from `solve_order` on, which docs/PROMISES.md names with these two; a type of
+// both would be made there for one call and taken apart in `need_row`.
 // Kept (point 1): codes 1 and 0 in place of bools, for `place` (docs/PROMISES.md) takes rows of codes, and `Bits` and `ReachTable` speak of such rows.
 pub fn needs(leading: &Table, partners: [Option<Unknown>; LIMIT]) -> Relation
     requires { Partnered leading.now.equations partners }

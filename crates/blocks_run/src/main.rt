@@ -34,7 +34,7 @@ fn split_before(block: &[u8], place: usize) -> &[u8]
     }
 }
 
-// Kept (point 5): here and in `pairing_run` the bound is on how much of a list is shown; no value of the gate's programs has it beside it.
+// Kept (point 5): the bound is on how much of the two lists is shown; with a table in its place the function would seem to show the table.
 fn print_blocks<W: Write>(out: &mut W, placing: Placing, n: usize) -> io::Result<()>
     requires { n ≤ limit }
 {

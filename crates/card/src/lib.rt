@@ -69,7 +69,8 @@ pub fn name_of(card: &[u8]) -> &[u8]
 }
 
 // The card of a name and a table, written over the first bytes of the card buffer: its length; where it is refused, nothing is written.
-// Kept (point 5): name, E, U and table are what the C entry is handed, each judged in its turn.
+// Kept (point 5): name, E, U and table are what the C entry is handed, each judged in its turn. `write_good` and `put_card` get the same four; a struct would be
+// made for these two calls, and `WriteDone` and `card_of` speak of each.
 pub fn write(
     name: &[u8],
     equations: usize,

@@ -96,6 +96,7 @@ fn read_end(card: &[u8], said: usize, count: usize, at: usize, next: usize) -> R
 }
 
 // The occurs lines and the end line, from a place on: the table collected from them.
+// Kept (point 6): room for the largest table, of which E × U bytes are used: there is no heap, and memory is fixed.
 pub fn read_list(card: &[u8], from: usize, limits: Limits) -> Result<[u8; CELLS], Refused>
     requires { from ≤ length card.now }
     ensures { ListRead card.now limits.equations limits.unknowns from result }

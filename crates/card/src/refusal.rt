@@ -27,6 +27,7 @@ pub enum Refusal {
 }
 
 // A refusal and its place.
+// Kept (point 1): place 0 with the refusals that have none, for document 01 hands out 0 there.
 #[derive(Clone, Copy, PartialEq, Eq)]
 pub struct Refused {
     pub refusal: Refusal,

@@ -19,7 +19,7 @@ const CARD_ROOM: usize = 65536;
 const TABLE_ROOM: usize = 4096;
 
 fn number<W: Write>(out: &mut W, n: usize) -> io::Result<()> {
-    // Kept (point 4): `u64::from` takes no usize.
+    // Kept (point 4): `u64::from` takes no usize, and `try_from` would hand back an error that cannot come.
     print_number(out, n as u64)?;
     print(out, b" ")
 }

@@ -27,13 +27,14 @@ struct Stopped {
 // The least counts by equation, the tops by unknown, and a full pairing over the leading occurrences, as holders.
 #[derive(Clone, Copy)]
 pub struct Choice {
+    // Kept (point 6): parallel arrays; counts and tops are strips of the answer, holders go on to `first`, and `Chosen` speaks of each.
     pub counts: Row,
     pub tops: Row,
     pub holders: Holders,
 }
 
 // One more for each that was asked.
-// Kept (point 5): `n ≤ limit` stays a clause; a whole table would be handed in for that number.
+// Kept (point 5): `n ≤ limit` stays a clause; with a table in its place the function would seem to look at more than how many equations there are.
 fn raised(n: usize, counts: &Row, asked: &Marks) -> Row
     requires { (n ≤ limit) × ((e : ℕ) → e < n → number_at counts.now e ≤ limit * top_order) }
     ensures { result ≡ raised_by n counts.now asked.now }
@@ -66,6 +67,8 @@ fn pair_on(leading: &Table, from: usize, holders: Holders) -> Result<Holders, St
 
 // The answer of document 01 for a solvable model: the fit choice whose every count is no larger than in any other fit choice.
 // Each raise brings the tops' sum nearer to the counts' sum, and it never falls below that.
+// Kept (point 5): that a table can be paired stays a clause, here and of those who call this: no body reads it, and docs/PROMISES.md names `least` with a
+// table, where a type of its own would ask callers for more.
 pub fn least(table: &Table) -> Choice
     requires { PairableTable table.now }
     ensures { Chosen table.now.equations table.now.rows result.counts result.tops result.holders }

@@ -18,6 +18,9 @@ pub(crate) fn lifted(code: u8, count: u8) -> Option<u8>
     code.checked_sub(1).map(|order| order + count)
 }
 
+// Kept (point 5): here, in `tops`, `lead_row` and `leading` a table and counts go together, with `Small`, and in `lifted` with the bound on one count. A type of
+// both is no plainer: the counts change at each turn of `least`, so it would be made anew for two calls, and each body would take it apart.
+
 // The largest order + count over the occurrences of one unknown, looked up by place, for most of the raising's time goes here.
 fn top(table: &Table, u: Unknown, counts: &Row) -> u8
     requires { Small table.now.equations table.now.rows counts.now × (unknown_number u ≤ table.now.equations) }

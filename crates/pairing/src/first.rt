@@ -15,8 +15,8 @@ use table::number::{Counted, Equation, Unknown};
 use table::rows::Table;
 
 // The lowest unknown that the equation holds.
-// Kept (point 5): here and in `left::held_count` the holders come with the number of unknowns alone, and its one bound stays a clause; a whole table would be
-// handed in for that number.
+// Kept (point 5): here and in `left::held_count` the holders come with the number of unknowns alone, and its one bound stays a clause; with a table in
+// its place the function would seem to look at what occurs where.
 fn held_by(unknowns: usize, e: Equation, holders: &Holders) -> Option<Unknown>
     requires { unknowns ≤ limit }
     ensures { HeldBy unknowns holders.now (equation_number e - 1) (or_zero unknown_number result) }
@@ -36,6 +36,9 @@ fn up_to(e: Equation) -> Marks
 {
     tabulated(e.place() + 1, false, |_| true)
 }
+
+// Kept (point 5): from here on a table and holders go together, with `AllPaired` or `SettledIn`. `first` (docs/PROMISES.md) takes the two, and each turn makes
+// new holders of the same table, so a type of both would be made anew at each turn.
 
 // The pairing in which the equation has the unknown while those before it keep theirs, where all the others can still be paired.
 fn trial(table: &Table, e: Equation, u: Unknown, holders: &Holders) -> Option<Holders>

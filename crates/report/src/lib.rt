@@ -41,6 +41,7 @@ impl Unfit {
         }
     }
 
+    // Kept (point 1): 0 with `TooLong`, for document 01 hands out 0 there.
     fn place(self) -> usize
         ensures { result ≡ unfit_place self }
     {
@@ -60,7 +61,8 @@ impl From<Refused> for Unfit {
 }
 
 // What the analysis handed back of a card.
-// Kept (point 5): that its equations are within the limit stays a clause, for `analysed` takes any E and U, as the analysis does.
+// Kept (point 5): that its equations are within the limit stays a clause of the two that read it, `put_analysis` and `put_text`; as a ghost field it would be
+// proved where `analysed` makes the value, and say no more.
 #[derive(Clone, Copy)]
 pub struct Analysis {
     pub equations: usize,

@@ -75,7 +75,7 @@ pub extern "C" fn mudorder_name(card: &[u8]) -> u64
 pub extern "C" fn mudorder_report(card: &[u8], out: &mut [u8]) -> u64
     ensures { Reported card.now out.old result out.new }
 {
-    // Kept (point 4): `u64::from` takes no usize.
+    // Kept (point 4): `u64::from` takes no usize, and `try_from` would hand back an error that cannot come.
     report(card, out) as u64
 }
 
