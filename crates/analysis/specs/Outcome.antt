@@ -62,18 +62,18 @@ refusal E U table room =
 abbrev pub refusal_place : ℕ → List ℕ → ℕ
 refusal_place code table = pick (eqb code 4) (first_above table) 0
 
--- the number and the place of each refusal that the code tells apart
-abbrev pub number_of : Refusal → ℕ
-number_of OutOfLimits = 1
-number_of TableLength = 2
-number_of ShortAnswer = 3
-number_of (CodeAbove at) = 4
+-- the code of each refusal, and the place with it, as the analysis tells them apart
+abbrev pub code_of : Refusal → ℕ
+code_of OutOfLimits = 1
+code_of TableLength = 2
+code_of ShortAnswer = 3
+code_of (CodeAbove at) = 4
 
-abbrev pub place_of : Refusal → ℕ
-place_of OutOfLimits = 0
-place_of TableLength = 0
-place_of ShortAnswer = 0
-place_of (CodeAbove at) = at
+abbrev pub place_with : Refusal → ℕ
+place_with OutOfLimits = 0
+place_with TableLength = 0
+place_with ShortAnswer = 0
+place_with (CodeAbove at) = at
 
 -- refused: the code and its place, others 0; nothing written
 pub record Refused (code : ℕ) (table before : List ℕ) (number : ℕ) (after : List ℕ) : Type 0 where

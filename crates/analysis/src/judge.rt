@@ -1,6 +1,6 @@
 // What is refused, before anything is written.
 ghost use Rattle.std.specs.Prelude.{◌≡◌, MatchResult};
-ghost use Rattle.analysis.specs.Outcome.{refusal, refusal_place, number_of, place_of};
+ghost use Rattle.analysis.specs.Outcome.{refusal, refusal_place, code_of, place_with};
 
 use crate::strip::ANSWER;
 use table::judge::{first_above, in_limits};
@@ -22,7 +22,7 @@ impl Refusal {
     // The number that document 01 gives it.
     // Kept (point 4): no `From<Refusal> for u8`, which would be the same `match`.
     pub fn number(self) -> u8
-        ensures { result ≡ number_of self }
+        ensures { result ≡ code_of self }
     {
         match self {
             Refusal::OutOfLimits => 1,
@@ -35,7 +35,7 @@ impl Refusal {
     // The place that goes with it.
     // Kept (point 1): 0 with the refusals that have none, for document 01 hands out 0 there.
     pub fn place(self) -> usize
-        ensures { result ≡ place_of self }
+        ensures { result ≡ place_with self }
     {
         match self {
             Refusal::CodeAbove(at) => at,
@@ -52,8 +52,8 @@ pub fn first_refusal(
     room: usize,
 ) -> Result<(), Refusal>
     ensures { MatchResult result (λ _. refusal equations unknowns table.now room ≡ 0)
-        (λ refused. (number_of refused ≡ refusal equations unknowns table.now room)
-        × (place_of refused ≡ refusal_place (number_of refused) table.now)) }
+        (λ refused. (code_of refused ≡ refusal equations unknowns table.now room)
+        × (place_with refused ≡ refusal_place (code_of refused) table.now)) }
 {
     if !in_limits(equations, unknowns) {
         return Err(Refusal::OutOfLimits);

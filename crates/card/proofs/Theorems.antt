@@ -18,7 +18,7 @@ use Rattle.std.specs.List.{list_all}
 use Rattle.card.specs.Entry.{name_byte, good_name}
 use Rattle.card.specs.Card.{Judged, refused, good, judged, read_of, table_of, name_of, name_at, card_of, wrote_none, card_after}
 use Rattle.std.specs.Prelude.{Result, Ok, Err}
-use Rattle.card.specs.Refusal.{refusal_number, refused_at, number_in, place_in, equations_in, unknowns_in, length_in}
+use Rattle.card.specs.Refusal.{refusal_number, refused_at, refused_number, refused_place, read_equations, read_unknowns, written_length}
 use Rattle.card.specs.declared.refusal.Refusal.{Refusal}
 use Rattle.card.specs.declared.refusal.Refusal.TheVariants.{Shape, Name, Limits, OutOfRange, NotAfter, EndNumber, TableRoom, CardRoom, TableLength, Code}
 use Rattle.card.specs.declared.refusal.Refused.{Refused}
@@ -74,8 +74,8 @@ read_succeeds {s} {name} {t} {before} {after} {E} {U} i h k =
 pub record ReadGood (s before : List ℕ) (r : Result Size Refused) (after : List ℕ) : Type 0 where
   pub says : Says s
   pub card : IsCard s says.name says.E says.U says.t
-  pub equations : equations_in r ≡ says.E
-  pub unknowns : unknowns_in r ≡ says.U
+  pub equations : read_equations r ≡ says.E
+  pub unknowns : read_unknowns r ≡ says.U
   pub room : says.E * says.U ≤ length before
   pub bytes : after ≡ says.t ++ drop (says.E * says.U) before
   pub sized : length says.t ≡ says.E * says.U
@@ -93,55 +93,55 @@ some_number EndNumber = omega arith
 some_number TableRoom = omega arith
 some_number CardRoom = omega arith
 
-pub read_good : {s before after : List ℕ} {r : Result Size Refused} → ReadDone s before r after → number_in r ≡ 0 → ReadGood s before r after
+pub read_good : {s before after : List ℕ} {r : Result Size Refused} → ReadDone s before r after → refused_number r ≡ 0 → ReadGood s before r after
 read_good {s} {before} {after} {r} k z = go (judged s) refl
   where
     go : (j : Judged) → judged s ≡ j → ReadGood s before r after
     go (refused m) p =
         let a : r ≡ Err m = k.answer ∙ ap (read_of (length before)) p in
-        let b : number_in r ≡ refusal_number m.refusal = ap number_in a in
+        let b : refused_number r ≡ refusal_number m.refusal = ap refused_number a in
         absurd (omega (arith, some_number m.refusal))
     go (good name E U t) p =
         let a : r ≡ read_of (length before) (good name E U t) = k.answer ∙ ap (read_of (length before)) p in
         let i = good_card s name E U t p in
         test (ltb (length before) (E * U))
-        (λ h. let d : number_in r ≡ 17 = ap number_in (rw h at a) in absurd (omega arith))
+        (λ h. let d : refused_number r ≡ 17 = ap refused_number (rw h at a) in absurd (omega arith))
         (λ h.
         let room = ltb-false (length before) (E * U) h in
         let (d, b) = read_succeeds i room k in
         record {
           says = record { name = name; E = E; U = U; t = t; is = p };
           card = i;
-          equations = ap equations_in d;
-          unknowns = ap unknowns_in d;
+          equations = ap read_equations d;
+          unknowns = ap read_unknowns d;
           room = room;
           bytes = b;
           sized = eqb-true (length t) (E * U) i.fine.sized;
         })
 
 -- any other number: no table byte has changed, and E and U are 0
-pub read_refused : {s before after : List ℕ} {r : Result Size Refused} → ReadDone s before r after → (number_in r ≡ 0 → ⊥)
-    → (after ≡ before) × (equations_in r ≡ 0) × (unknowns_in r ≡ 0)
+pub read_refused : {s before after : List ℕ} {r : Result Size Refused} → ReadDone s before r after → (refused_number r ≡ 0 → ⊥)
+    → (after ≡ before) × (read_equations r ≡ 0) × (read_unknowns r ≡ 0)
 read_refused {s} {before} {after} {r} k n = go (judged s) refl
   where
-    go : (j : Judged) → judged s ≡ j → (after ≡ before) × (equations_in r ≡ 0) × (unknowns_in r ≡ 0)
+    go : (j : Judged) → judged s ≡ j → (after ≡ before) × (read_equations r ≡ 0) × (read_unknowns r ≡ 0)
     go (refused m) p =
         let a : r ≡ Err m = k.answer ∙ ap (read_of (length before)) p in
-        (k.bytes ∙ ap (table_of before) p, ap equations_in a, ap unknowns_in a)
+        (k.bytes ∙ ap (table_of before) p, ap read_equations a, ap read_unknowns a)
     go (good name E U t) p =
         let a : r ≡ read_of (length before) (good name E U t) = k.answer ∙ ap (read_of (length before)) p in
         let c : after ≡ table_of before (good name E U t) = k.bytes ∙ ap (table_of before) p in
         test (ltb (length before) (E * U))
-        (λ h. let d : r ≡ Err (refused_at TableRoom 0) = rw h at a in (rw h at c, ap equations_in d, ap unknowns_in d))
-        (λ h. let d : r ≡ Ok (record { equations = E; unknowns = U }) = rw h at a in absurd (n (ap number_in d)))
+        (λ h. let d : r ≡ Err (refused_at TableRoom 0) = rw h at a in (rw h at c, ap read_equations d, ap read_unknowns d))
+        (λ h. let d : r ≡ Ok (record { equations = E; unknowns = U }) = rw h at a in absurd (n (ap refused_number d)))
 
 -- the bounds by which every answer fits what is printed and packed; a place is at most the input's length, too
 pub record ReadFits (s : List ℕ) (r : Result Size Refused) : Type 0 where
-  pub number : number_in r ≤ 17
-  pub place : place_in r ≤ longest
-  pub within : place_in r ≤ length s
-  pub equations : equations_in r ≤ limit
-  pub unknowns : unknowns_in r ≤ limit
+  pub number : refused_number r ≤ 17
+  pub place : refused_place r ≤ longest
+  pub within : refused_place r ≤ length s
+  pub equations : read_equations r ≤ limit
+  pub unknowns : read_unknowns r ≤ limit
 
 pub read_fits : {s before after : List ℕ} {r : Result Size Refused} → ReadDone s before r after → ReadFits s r
 read_fits {s} {before} {after} {r} k = go (judged s) refl
@@ -174,18 +174,18 @@ write_succeeds {name} {t} {before} {after} {E} {U} {r} g h k =
     (e, k.bytes ∙ ap (λ x. card_after before x (card_of name E U t)) e)
 
 -- any other number: no card byte has changed
-pub write_refused : {name t before after : List ℕ} {E U : ℕ} {r : Result ℕ Refused} → WriteDone name E U t before r after → (number_in r ≡ 0 → ⊥) → after ≡ before
+pub write_refused : {name t before after : List ℕ} {E U : ℕ} {r : Result ℕ Refused} → WriteDone name E U t before r after → (refused_number r ≡ 0 → ⊥) → after ≡ before
 write_refused {name} {t} {before} {after} {E} {U} {r} k n = k.bytes ∙ go r n
   where
-    go : (r : Result ℕ Refused) → (number_in r ≡ 0 → ⊥) → card_after before r (card_of name E U t) ≡ before
+    go : (r : Result ℕ Refused) → (refused_number r ≡ 0 → ⊥) → card_after before r (card_of name E U t) ≡ before
     go (Ok m) n = absurd (n refl)
     go (Err m) n = refl
 
 -- the bounds by which every answer of the writer fits what is printed and packed
 pub record WriteFits (r : Result ℕ Refused) : Type 0 where
-  pub number : number_in r ≤ 18
-  pub place : place_in r ≤ longest
-  pub length_fits : length_in r ≤ longest
+  pub number : refused_number r ≤ 18
+  pub place : refused_place r ≤ longest
+  pub length_fits : written_length r ≤ longest
 
 pub write_fits : {name t before after : List ℕ} {E U : ℕ} {r : Result ℕ Refused} → WriteDone name E U t before r after → WriteFits r
 write_fits {name} {t} {before} {after} {E} {U} {r} k =
@@ -264,17 +264,17 @@ pub record CardAgain (s before : List ℕ) (read written long : ℕ) (after : Li
 pub card_again : {card part : Bor (List ℕ)} {name t table table' before after : List ℕ} {E U : ℕ} {r : Result Size Refused} {w : Result ℕ Refused}
     → IsCard card.now name E U t → E * U ≤ length table → length card.now ≤ length before
     → ReadDone card.now table r table' → NamePart card part
-    → WriteDone part.now (equations_in r) (unknowns_in r) (take (equations_in r * unknowns_in r) table') before w after
-    → CardAgain card.now before (number_in r) (number_in w) (length_in w) after
+    → WriteDone part.now (read_equations r) (read_unknowns r) (take (read_equations r * read_unknowns r) table') before w after
+    → CardAgain card.now before (refused_number r) (refused_number w) (written_length w) after
 card_again {card} {part} {name} {t} {table} {table'} {before} {after} {E} {U} {r} {w} i h h' k n l =
     let (a, b) = read_succeeds i h k in
-    let c : take (equations_in r * unknowns_in r) table' ≡ t = rw (a, b) (take_at t (drop (E * U) table) (E * U) (eqb-true (length t) (E * U) i.fine.sized)) in
-    let v = moved (name_succeeds i n) (ap equations_in a) (ap unknowns_in a) c l in
+    let c : take (read_equations r * read_unknowns r) table' ≡ t = rw (a, b) (take_at t (drop (E * U) table) (E * U) (eqb-true (length t) (E * U) i.fine.sized)) in
+    let v = moved (name_succeeds i n) (ap read_equations a) (ap read_unknowns a) c l in
     let (d, e) = write_succeeds i.fine (rw i.bytes at h') v in
     record {
-      good_read = ap number_in a;
-      good_written = ap number_in d;
-      same_length = rw i.bytes (ap length_in d);
+      good_read = ap refused_number a;
+      good_written = ap refused_number d;
+      same_length = rw i.bytes (ap written_length d);
       same_bytes = rw i.bytes e;
     }
 
@@ -291,18 +291,18 @@ pub record TableAgain (name : List ℕ) (E U : ℕ) (t table : List ℕ) (writte
 -- with room enough, a good table and name written and read again come back the same
 pub table_again : {card part : Bor (List ℕ)} {name t table table' before after : List ℕ} {E U : ℕ} {r : Result Size Refused} {w : Result ℕ Refused}
     → WriteGood name E U t → length (card_of name E U t) ≤ length before → E * U ≤ length table
-    → WriteDone name E U t before w after → card.now ≡ take (length_in w) after → ReadDone card.now table r table' → NamePart card part
-    → TableAgain name E U t table (number_in w) (number_in r) (equations_in r) (unknowns_in r) table' part.now
+    → WriteDone name E U t before w after → card.now ≡ take (written_length w) after → ReadDone card.now table r table' → NamePart card part
+    → TableAgain name E U t table (refused_number w) (refused_number r) (read_equations r) (read_unknowns r) table' part.now
 table_again {card} {part} {name} {t} {table} {table'} {before} {after} {E} {U} {r} {w} g h h' k e l n =
     let (a, b) = write_succeeds g h k in
     let c = card_of name E U t in
     let i : IsCard card.now name E U t = record { bytes = e ∙ rw (a, b) (take_at c (drop (length c) before) (length c) refl); fine = g } in
     let (d, f) = read_succeeds i h' l in
     record {
-      good_written = ap number_in a;
-      good_read = ap number_in d;
-      same_E = ap equations_in d;
-      same_U = ap unknowns_in d;
+      good_written = ap refused_number a;
+      good_read = ap refused_number d;
+      same_E = ap read_equations d;
+      same_U = ap read_unknowns d;
       same_codes = f;
       same_name = name_succeeds i n;
     }

@@ -22,24 +22,24 @@ abbrev pub refused_at : Refusal → ℕ → Refused
 refused_at refusal place = record { refusal = refusal; place = place }
 
 -- number and place, "with number and place 0" where nothing is refused
-abbrev pub number_in : {A : Type 0} → Result A Refused → ℕ
-number_in (Ok a) = 0
-number_in (Err r) = refusal_number r.refusal
+abbrev pub refused_number : {A : Type 0} → Result A Refused → ℕ
+refused_number (Ok a) = 0
+refused_number (Err r) = refusal_number r.refusal
 
-abbrev pub place_in : {A : Type 0} → Result A Refused → ℕ
-place_in (Ok a) = 0
-place_in (Err r) = r.place
+abbrev pub refused_place : {A : Type 0} → Result A Refused → ℕ
+refused_place (Ok a) = 0
+refused_place (Err r) = r.place
 
 -- the reader's E and U, "both 0 when refused"
-abbrev pub equations_in : Result Size Refused → ℕ
-equations_in (Ok size) = size.equations
-equations_in (Err r) = 0
+abbrev pub read_equations : Result Size Refused → ℕ
+read_equations (Ok size) = size.equations
+read_equations (Err r) = 0
 
-abbrev pub unknowns_in : Result Size Refused → ℕ
-unknowns_in (Ok size) = size.unknowns
-unknowns_in (Err r) = 0
+abbrev pub read_unknowns : Result Size Refused → ℕ
+read_unknowns (Ok size) = size.unknowns
+read_unknowns (Err r) = 0
 
 -- the writer's "length written (0 when refused)"
-abbrev pub length_in : Result ℕ Refused → ℕ
-length_in (Ok length) = length
-length_in (Err r) = 0
+abbrev pub written_length : Result ℕ Refused → ℕ
+written_length (Ok length) = length
+written_length (Err r) = 0

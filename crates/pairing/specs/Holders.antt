@@ -1,4 +1,4 @@
--- A pairing as the code has it: for each unknown its holder, an equation's number, or 0 where nobody holds it. And what one search does to it.
+-- A pairing as the code has it: for each unknown the equation that holds it, or none. And what one search does to it.
 use Rattle.std.specs.Prelude.{◌≡◌, Bool, true, false, Result, Ok, Err, List, ◌⊎◌, ℕ, suc, ◌-◌, ◌<◌, ◌≤◌, eqb}
 use Rattle.laws.specs.Marks.{marked}
 use Rattle.table.specs.Model.{limit}

@@ -13,7 +13,7 @@ use Rattle.card.specs.Promise.{ReadDone}
 use Rattle.card.specs.Laid.{Laid}
 use Rattle.card.specs.declared.refusal.Refused.{Refused}
 use Rattle.card.specs.declared.Size.{Size}
-use Rattle.card.specs.Refusal.{refusal_number, number_in, equations_in, unknowns_in}
+use Rattle.card.specs.Refusal.{refusal_number, refused_number, read_equations, read_unknowns}
 use Rattle.std.specs.Prelude.{Result, Ok, Err, IsErrAnd}
 use Rattle.card.proofs.ListLaws.{cells_within}
 use Rattle.card.proofs.WriteLaws.{laid_nothing}
@@ -64,13 +64,13 @@ module _ {s after : List ℕ} {r : Result Size Refused} (h : length s ≤ input_
 
   module _ {size : Size} (n : r ≡ Ok size) where
     said : ReadGood s (replicate {A = ℕ} (limit * limit) 0) r after
-    said = read_good k (ap number_in n)
+    said = read_good k (ap refused_number n)
 
     pub examined_good : {f : Analysis} → Analysed size.equations size.unknowns (take (size.equations * size.unknowns) after) f → Examined s (Ok f)
     examined_good d =
         let w = said.says in
         let rest = drop (w.E * w.U) (replicate {A = ℕ} (limit * limit) 0) in
-        good_found s w.name w.E w.U w.t w.is (sym (ap equations_in n) ∙ said.equations) (sym (ap unknowns_in n) ∙ said.unknowns) after rest h said.bytes said.sized d
+        good_found s w.name w.E w.U w.t w.is (sym (ap read_equations n) ∙ said.equations) (sym (ap read_unknowns n) ∙ said.unknowns) after rest h said.bytes said.sized d
 
 -- ---- the report where there is room
 

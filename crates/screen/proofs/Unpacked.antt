@@ -7,7 +7,7 @@ use native.Mathlib.Omega.{arith}
 use lib.ListN.{length}
 use Rattle.card.specs.Card.{Judged, refused, good, judged, read_of, name_of, name_at, write_of}
 use Rattle.card.specs.Promise.{ReadDone, WriteDone}
-use Rattle.card.specs.Refusal.{number_in, place_in, equations_in, unknowns_in, length_in}
+use Rattle.card.specs.Refusal.{refused_number, refused_place, read_equations, read_unknowns, written_length}
 use Rattle.card.specs.declared.refusal.Refused.{Refused}
 use Rattle.card.specs.declared.Size.{Size}
 use Rattle.std.specs.Prelude.{Result}
@@ -40,10 +40,10 @@ name_none s {part} e h = go (judged s) refl
 -- ---- nothing is cut short
 
 pub record ReadWhole (r : Result Size Refused) (n : ℕ) : Type 0 where
-  pub number : first_in n ≡ number_in r
-  pub place : second_in n ≡ place_in r
-  pub equations : fourth_in n ≡ equations_in r
-  pub unknowns : fifth_in n ≡ unknowns_in r
+  pub number : first_in n ≡ refused_number r
+  pub place : second_in n ≡ refused_place r
+  pub equations : fourth_in n ≡ read_equations r
+  pub unknowns : fifth_in n ≡ read_unknowns r
 
 pub read_whole : {s before after : List ℕ} {n : ℕ} → ReadPacked s before n after → ReadWhole (read_of (length before) (judged s)) n
 read_whole {s} {before} {after} {n} k = whole (read_of (length before) (judged s)) (read_fits (read_done k)) k.answer
@@ -54,9 +54,9 @@ read_whole {s} {before} {after} {n} k = whole (read_of (length before) (judged s
         record { number = omega arith; place = omega arith; equations = omega arith; unknowns = omega arith }
 
 pub record WriteWhole (r : Result ℕ Refused) (n : ℕ) : Type 0 where
-  pub number : first_in n ≡ number_in r
-  pub place : second_in n ≡ place_in r
-  pub length_is : two_from_fourth_in n ≡ length_in r
+  pub number : first_in n ≡ refused_number r
+  pub place : second_in n ≡ refused_place r
+  pub length_is : two_from_fourth_in n ≡ written_length r
 
 pub write_whole : {name t before after : List ℕ} {E U n : ℕ} → WritePacked name E U t before n after → WriteWhole (write_of (length before) name E U t) n
 write_whole {name} {t} {before} {after} {E} {U} {n} k = whole (write_of (length before) name E U t) (write_fits (write_done k)) k.answer

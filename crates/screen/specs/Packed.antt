@@ -1,7 +1,7 @@
 -- The numbers that the card's entries hand back, each as one number for the C calling form.
 use Rattle.std.specs.Prelude.{◌≡◌, Result, List, ℕ, ◌+◌, ◌*◌, ◌/◌, ◌%◌, length, take, drop}
 use Rattle.card.specs.Card.{Judged, judged, read_of, table_of, name_of, name_at, card_of, write_of, card_after}
-use Rattle.card.specs.Refusal.{number_in, place_in, equations_in, unknowns_in, length_in}
+use Rattle.card.specs.Refusal.{refused_number, refused_place, read_equations, read_unknowns, written_length}
 use Rattle.card.specs.declared.refusal.Refused.{Refused}
 use Rattle.card.specs.declared.Size.{Size}
 
@@ -11,7 +11,7 @@ packed_card first second fourth fifth = first + second * 256 + fourth * 16777216
 
 -- the reader: number, place in two bytes, E, U, then 0
 abbrev pub read_number : Result Size Refused → ℕ
-read_number r = packed_card (number_in r) (place_in r) (equations_in r) (unknowns_in r)
+read_number r = packed_card (refused_number r) (refused_place r) (read_equations r) (read_unknowns r)
 
 pub record ReadPacked (card before : List ℕ) (number : ℕ) (after : List ℕ) : Type 0 where
   pub answer : number ≡ read_number (read_of (length before) (judged card))
@@ -19,7 +19,7 @@ pub record ReadPacked (card before : List ℕ) (number : ℕ) (after : List ℕ)
 
 -- the writer: number, place in two bytes, length in two bytes, then 0
 abbrev pub write_number : Result ℕ Refused → ℕ
-write_number w = packed_card (number_in w) (place_in w) (length_in w) 0
+write_number w = packed_card (refused_number w) (refused_place w) (written_length w) 0
 
 pub record WritePacked (name : List ℕ) (E U : ℕ) (table before : List ℕ) (number : ℕ) (after : List ℕ) : Type 0 where
   pub answer : number ≡ write_number (write_of (length before) name E U table)

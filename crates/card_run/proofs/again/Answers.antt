@@ -2,12 +2,12 @@
 use Rattle.std.proofs.Common.{◌≡◌, refl, sym, ◌∙◌, ℕ, arith, length, length-take-le}
 use Rattle.std.specs.Prelude.{Result, Ok, Err}
 use Rattle.std.specs.Result.{result_unwrap_or}
-use Rattle.card.specs.Refusal.{length_in}
+use Rattle.card.specs.Refusal.{written_length}
 use Rattle.card.specs.declared.refusal.Refused.{Refused}
 use Rattle.card.proofs.Theorems.{write_fits}
 use Rattle.card_run.proofs.again.Goals as goal
 
-length_is : (written : Result ℕ Refused) → result_unwrap_or written 0 ≡ length_in written
+length_is : (written : Result ℕ Refused) → result_unwrap_or written 0 ≡ written_length written
 length_is (Ok length) = refl
 length_is (Err refused) = refl
 
