@@ -63,9 +63,6 @@ module _ {E U e u k x : ℕ} (h : in_limits E U ≡ true) (r : Ranged E U e u k)
   pub cell_fits : {y : ℕ} → y ≡ u - 1 → x * U + y < limit * limit
   cell_fits q = rw (p, q) (lt_of_lt_of_le (cell_within r) (cells_within E U h))
 
-  pub place_fits : x * U < limit * limit
-  place_fits = let z = cell_fits {y = u - 1} refl in omega arith
-
 -- ---- a line that was taken
 
 -- an occurs line: its pair is in range and comes after the last one, and the code is k + 1

@@ -2,15 +2,14 @@
 use mathlib.Core.Path.{◌≡◌, refl, ap, sym, ◌∙◌}
 use mathlib.Core.Bool.{true, false}
 use mathlib.Core.List.{List, [], ◌∷◌}
-use Prim.Native.Nat.{ℕ, suc, ◌+◌, ◌-◌, ◌*◌, ◌^◌, ◌≤◌, ◌<◌, min}
+use Prim.Native.Nat.{ℕ, zero, suc, ◌+◌, ◌-◌, ◌*◌, ◌^◌, ◌≤◌, ◌<◌}
 use native.Mathlib.Omega.{arith}
 use native.Mathlib.Numerals.{add-one}
 use lib.Dec.{leb, eqb}
-use lib.ListN.{length, get_or, take, drop, length-take}
+use lib.ListN.{length, get_or, drop, drop_of_length-le}
 use lib.Seq.{drop-cons}
 use borrow.Author.Tests.{leb-true}
 use Rattle.std.specs.Prelude.{Some}
-use Rattle.std.proofs.lemmas.List.{get_or-take}
 use Rattle.laws.specs.Tab.{pick}
 use Rattle.laws.proofs.Tests.{test, and_left, and_right}
 use Rattle.card.specs.Text.{begins, is_digit, number, digits_of, number_of, Lines, none, cut, line, grown}
@@ -31,36 +30,46 @@ pub digit_high : (b : ℕ) → is_digit b ≡ true → b ≤ 57
 digit_high b h = leb-true b 57 (and_right (leb 48 b) (leb b 57) h)
 
 -- what the loop over digits keeps: the number is what is read so far, with the digits to come
-pub record Taken (text : List ℕ) (d : Number) (i : ℕ) : Type 0 where
-  pub three : i ≤ 3
-  pub within : i + 1 ≤ length text
-  pub small : d.value < 10 ^ (i + 1)
-  pub took : d.took ≡ i + 1
-  pub same : number_of text ≡ Some (digits_of (3 - i) d.value d.took (drop (i + 1) text))
+pub record Taken (text : List ℕ) (d : Number) (at : ℕ) : Type 0 where
+  pub some : 1 ≤ at
+  pub four : at ≤ 4
+  pub within : at ≤ length text
+  pub small : d.value < 10 ^ at
+  pub took : d.took ≡ at
+  pub same : number_of text ≡ Some (digits_of (4 - at) d.value d.took (drop at text))
 
 -- one digit after another
-digits_at : (s : List ℕ) (value took i : ℕ) → i < 3 → i < length s
-    → digits_of (3 - i) value took (drop i s)
-    ≡ pick (is_digit (get_or s i 0)) (digits_of (3 - (i + 1)) (value * 10 + (get_or s i 0 - 48)) (took + 1) (drop (i + 1) s)) (number value took)
+digits_at : (s : List ℕ) (value took i : ℕ) → i < 4 → i < length s
+    → digits_of (4 - i) value took (drop i s)
+    ≡ pick (is_digit (get_or s i 0)) (digits_of (4 - (i + 1)) (value * 10 + (get_or s i 0 - 48)) (took + 1) (drop (i + 1) s)) (number value took)
 digits_at s value took i h k =
-    let e : 3 - i ≡ suc (3 - (i + 1)) = omega arith in
+    let e : 4 - i ≡ suc (4 - (i + 1)) = omega arith in
     let d : drop i s ≡ get_or s i 0 ∷ drop (i + 1) s = rw add-one (drop-cons s i 0 k) in
     rw (e, d)
 
--- over the bytes behind the first, of which the loop sees at most three
-module _ {text rest : List ℕ} {first m : ℕ} {d : Number} {i : ℕ} (e : text ≡ first ∷ rest) (s : m ≡ min (length rest) 3) (k : Taken text d i) where
-  behind : drop (i + 1) text ≡ drop i rest
-  behind = rw (e, add-one)
+-- no digit where the text ends
+digits_end : (more value took : ℕ) → digits_of more value took [] ≡ number value took
+digits_end zero value took = refl
+digits_end (suc more) value took = refl
 
-  module _ (l : i < length (take m rest)) where
-    room : (i < m) × (i < length rest)
-    room = let a = length-take m rest in (omega arith, omega arith)
+module _ {s : List ℕ} {d : Number} {at : ℕ} (k : Taken s d at) where
+  pub taken_end : length s ≤ at → Some d ≡ number_of s
+  taken_end h = sym (k.same ∙ ap Some (rw (drop_of_length-le s h) (digits_end (4 - at) d.value d.took)))
 
-    pub taken_stop : is_digit (get_or (take m rest) i 0) ≡ false → Some d ≡ number_of text
-    taken_stop f =
-        let (a, b) = room in
-        sym (k.same ∙ ap (λ l. Some (digits_of (3 - i) d.value d.took l)) behind
-        ∙ ap Some (digits_at rest d.value d.took i (omega arith) b ∙ rw (← get_or-take m rest i 0 a, f)))
+  pub taken_stop : at < 4 → at < length s → is_digit (get_or s at 0) ≡ false → Some d ≡ number_of s
+  taken_stop h l n = sym (k.same ∙ ap Some (digits_at s d.value d.took at h l ∙ rw n))
+
+  pub taken_step : at < 4 → at < length s → is_digit (get_or s at 0) ≡ true
+      → Taken s (record { value = d.value * 10 + (get_or s at 0 - 48); took = d.took + 1 }) (at + 1)
+  taken_step h l n =
+      record {
+        some = omega arith;
+        four = omega arith;
+        within = omega arith;
+        small = let p : 10 ^ (at + 1) ≡ 10 * 10 ^ at = rw add-one (omega arith) in omega (arith, k.small, digit_high (get_or s at 0) n);
+        took = omega (arith, k.took);
+        same = k.same ∙ ap Some (digits_at s d.value d.took at h l ∙ rw n);
+      }
 
 -- a line's end, one byte after another
 pub end_grown : (b at : ℕ) (x : Lines) → end_of at (grown b x) ≡ end_of (at + 1) x

@@ -2,5 +2,5 @@
 use Rattle.card.proofs.TextLaws.{Taken}
 use Rattle.card.proofs.text.front_number.Given as goal
 
-abbrev pub invariant-loop-byte : goal.invariant-loop-byte
-invariant-loop-byte l = Taken l.text l.number l.byte-index
+abbrev pub invariant-loop-at : goal.invariant-loop-at
+invariant-loop-at l = Taken l.text l.number l.at
