@@ -4,7 +4,7 @@ ghost use Rattle.table.specs.Model.{limit};
 
 use table::Rows;
 
-#[derive(Drop)]
+#[derive(Clone, Copy)]
 pub struct Relation {
     pub equations: usize,
     pub rows: Rows,

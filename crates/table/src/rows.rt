@@ -9,7 +9,7 @@ use crate::{LIMIT, Row, Rows};
 use laws::array::tabulated;
 
 // E equations and U unknowns, and what occurs where, as codes. Those that are made here have 0 beyond the last equation and unknown.
-#[derive(Drop)]
+#[derive(Clone, Copy)]
 pub struct Table {
     pub equations: usize,
     pub unknowns: usize,
