@@ -70,7 +70,7 @@ picked_at n f small i = test (ltb i limit)
     (λ h. get_or_past limit (λ i. pick (ltb i n) (f i) 0) i 0 (omega (arith, tests)) ∙ rw (le-ltb i n (omega (arith, tests))))
 
 -- the tops as the code has them
-tops_at : (n : ℕ) (t : List (List ℕ)) (counts : List ℕ) → n ≤ limit → (u : ℕ) → u < n → number_at (tops_of n t counts) u ≡ high_at n t counts u
+pub tops_at : (n : ℕ) (t : List (List ℕ)) (counts : List ℕ) → n ≤ limit → (u : ℕ) → u < n → number_at (tops_of n t counts) u ≡ high_at n t counts u
 tops_at n t counts small u h = picked_at n (high_at n t counts) small u ∙ rw (lt-ltb u n h)
 
 tops_past : (n : ℕ) (t : List (List ℕ)) (counts : List ℕ) → n ≤ limit → (u : ℕ) → n ≤ u → number_at (tops_of n t counts) u ≡ 0
@@ -109,7 +109,7 @@ module _ (n : ℕ) (t : List (List ℕ)) (counts : List ℕ) (small : n ≤ limi
   pub to_paired : (f : ℕ) (holders : List (Option Equation)) → KeptIn n t f counts holders → Paired n (rows_of n t counts) f (held holders)
   to_paired f holders p = over_paired p.upto (λ e u h k l. same e u h k ∙ l)
 
-  from_paired : (f f' : ℕ) (holders holders' : List (Option Equation)) → KeptIn n t f counts holders → Paired n (rows_of n t counts) f' (held holders')
+  pub from_paired : (f f' : ℕ) (holders holders' : List (Option Equation)) → KeptIn n t f counts holders → Paired n (rows_of n t counts) f' (held holders')
       → KeptIn n t f' counts holders'
   from_paired f f' holders holders' p q = record { upto = over_paired q (λ e u h k l. to_lead e u l); low = p.low; room = p.room; beyond = p.beyond }
 
@@ -122,7 +122,7 @@ module _ (n : ℕ) (t : List (List ℕ)) (can : Pairable n t) where
   orders e u h k = let c = can.bounded.codes e u h k in omega arith
 
   -- order + count fits a byte all the way
-  small_in : (f : ℕ) (counts : List ℕ) (holders : List (Option Equation)) → KeptIn n t f counts holders → Small n t counts
+  pub small_in : (f : ℕ) (counts : List ℕ) (holders : List (Option Equation)) → KeptIn n t f counts holders → Small n t counts
   small_in f counts holders p = record {
     bounded = can.bounded;
     few = λ e h. let k = count_few n (occurs_at t) (order_at t) can.pairs can.full f (number_at counts) (held holders) p e h in
@@ -158,7 +158,7 @@ module _ (n : ℕ) (t : List (List ℕ)) (can : Pairable n t) where
             let o = bit_false out in
             rw h (omega arith))
 
-    raise_in : KeptIn n t f (raised_by n counts asked) holders × Nearer n t counts (raised_by n counts asked)
+    pub raise_in : KeptIn n t f (raised_by n counts asked) holders × Nearer n t counts (raised_by n counts asked)
     raise_in =
         let vain = stuck n t counts can.bounded.equations f holders asked b p none in
         rw raised_list (
