@@ -30,7 +30,7 @@ pub fn front_number(text: &[u8]) -> Option<Number>
         value: usize::from(first - b'0'),
         took: 1,
     };
-    // Looked up by place: with a part of at most three bytes cut out first, reading a card takes a quarter longer.
+    // Looked up by place: with a part of at most three bytes cut out first, reading a large card takes up to a quarter longer (docs/LOOK-BACK.md).
     for at in 1..4 {
         if text.len() <= at || !text[at].is_ascii_digit() {
             return Some(number);
